@@ -29,6 +29,20 @@ impl Texts {
         }
     }
 
+    /// The list of these texts.
+    pub fn from_vec(texts: Vec<Text>) -> Texts
+        ensures { result ≡ texts.items }
+    {
+        Texts { texts }
+    }
+
+    /// The texts, lent.
+    pub fn as_slice(&self) -> &[Text]
+        ensures { result.now ≡ self.now }
+    {
+        self.texts.as_slice()
+    }
+
     /// Puts the text last. After `Memory` the list is what it was.
     pub fn push(&mut self, text: Text) -> Result<(), Memory>
         ensures ok { OnOk result (self.new ≡ self.old ++ text ∷ []) }
