@@ -1,0 +1,13 @@
+use Rattle.std.proofs.Common.{refl}
+use Rattle.argot_run.specs.Ends.{answered, no_memory}
+use Rattle.argot_run.proofs.NoBound.{unbounded}
+use Rattle.argot_run.proofs.top.argot.Goals as goal
+
+pub returns-in-Ok-clause-ends : goal.returns-in-Ok-clause-ends
+returns-in-Ok-clause-ends g c = answered c.in-Ok.answer c.in-Ok.ensures c.deliver.ensures
+
+pub returns-in-Ok-clause-no_bound : goal.returns-in-Ok-clause-no_bound
+returns-in-Ok-clause-no_bound g c = unbounded c.deliver.result (answered c.in-Ok.answer c.in-Ok.ensures c.deliver.ensures)
+
+pub returns-in-Err-clause-ends : goal.returns-in-Err-clause-ends
+returns-in-Err-clause-ends g c = no_memory (record { faults = refl; taken = refl }) (record { faults = refl; taken = refl })

@@ -1,0 +1,67 @@
+-- Which answer is due to the words and the files.
+use Rattle.std.specs.Prelude.{◌≡◌, ℕ, List, ◌++◌, codes, Option, Some, None, IfSome}
+use Rattle.argot_io.specs.Faults.{Rose}
+use Rattle.argot_io.specs.Told.{Entry, listing, content}
+use Rattle.argot_io.specs.declared.files.FilesCall.{FilesCall}
+use Rattle.argot_io.specs.declared.files.FilesCall.TheVariants.{Listing, Reading}
+use Rattle.argot_run.specs.Form.{HasFirstForm}
+use Rattle.argot_run.specs.Listed.{HasNoSource, HasOthers, HasMainAlone}
+use Rattle.argot_run.specs.Texts.{usage_line, no_main_line, not_first_form_line, cannot_list_line, cannot_read_line, clean_report}
+use Rattle.argot_run.specs.Words.{asked}
+use Rattle.argot_run.specs.declared.answer.Answer.{Answer}
+use Rattle.argot_run.specs.declared.status.Status.TheVariants.{Clean, Refused, Unsupported, ReadFault}
+
+-- the path of the folder's main file
+abbrev pub main_path : List ℕ → List ℕ
+main_path dir = dir ++ codes "/main.go"
+
+-- the files tell bytes of the main file, and these have that property
+abbrev pub MainIs : (List ℕ → Type 0) → List ℕ → List Entry → Type 0
+MainIs P dir entries = (bytes : List ℕ) × (content (main_path dir) entries ≡ Some bytes) × P bytes
+
+-- what the files have seen: what they tell, the count of faults before and now, the call that failed last
+pub record Outside : Type 0 where
+  pub told : Option (List Entry)
+  pub before : ℕ
+  pub now : ℕ
+  pub last : Option FilesCall
+
+-- no call of the files failed
+abbrev pub IsCalm : Outside → Type 0
+IsCalm outside = outside.now ≡ outside.before
+
+-- the answer that is due to a folder; what it says of the files is said where they tell
+pub data DueToFolder (dir : List ℕ) (outside : Outside) : Answer → Type 0 where
+  -- the folder has no source
+  no_source :
+      IsCalm outside → IfSome outside.told (λ entries. HasNoSource (listing dir entries)) →
+      DueToFolder dir outside (record { status = Refused; text = no_main_line })
+  -- its sources aren't `main.go` alone
+  other_files :
+      IsCalm outside → IfSome outside.told (λ entries. HasOthers (listing dir entries)) →
+      DueToFolder dir outside (record { status = Unsupported; text = not_first_form_line })
+  -- its `main.go` hasn't the first form
+  other_text :
+      IsCalm outside →
+      IfSome outside.told (λ entries. HasMainAlone (listing dir entries) × MainIs (λ bytes. ¬ HasFirstForm bytes) dir entries) →
+      DueToFolder dir outside (record { status = Unsupported; text = not_first_form_line })
+  -- it has, and nothing flows
+  nothing_flows :
+      IsCalm outside →
+      IfSome outside.told (λ entries. HasMainAlone (listing dir entries) × MainIs HasFirstForm dir entries) →
+      DueToFolder dir outside (record { status = Clean; text = clean_report })
+  -- the folder couldn't be listed
+  not_listed :
+      Rose outside.before outside.now → outside.last ≡ Some (Listing dir) →
+      DueToFolder dir outside (record { status = ReadFault; text = cannot_list_line dir })
+  -- its `main.go` couldn't be read
+  not_read :
+      Rose outside.before outside.now → outside.last ≡ Some (Reading (main_path dir)) →
+      IfSome outside.told (λ entries. HasMainAlone (listing dir entries)) →
+      DueToFolder dir outside (record { status = ReadFault; text = cannot_read_line (main_path dir) })
+
+-- the answer that is due to the words
+pub data Due (words : List (List ℕ)) (outside : Outside) : Answer → Type 0 where
+  -- they aren't a request
+  wrong_words : asked words ≡ None → IsCalm outside → Due words outside (record { status = Refused; text = usage_line })
+  of_folder : {answer : Answer} (dir : List ℕ) → asked words ≡ Some dir → DueToFolder dir outside answer → Due words outside answer

@@ -1,0 +1,226 @@
+use super::*;
+use argot_io::{MemFiles, MemSink, are_distinct};
+use argot_text::{Text, Texts};
+use std::process::Abort;
+use std::test::Fail;
+use std::thread::Threads;
+
+const EMPTY: &str = "package main\n\nfunc main() {\n}\n";
+
+const CLEAN: &str = "0 flows, 0 escapes\n";
+
+const NO_MAIN: &str = "argot: no main function in folder .\n";
+
+const OTHER: &str = "argot: not of the first form\n";
+
+const USAGE: &str =
+    "argot: usage: argot taint|backtrace|escape [-config FILE] [-workers N] DIR, or argot trial [-workers N] COUNT\n";
+
+// The outside of one run, and what is wanted of it.
+#[derive(Drop)]
+struct Case<'a> {
+    words: &'a [&'a str],
+    files: &'a [(&'a str, &'a str)],
+    failing: &'a [u32],
+    status: Status,
+    out: &'a str,
+    err: &'a str,
+}
+
+// Runs the case over files and sinks in memory; each sink takes three bytes a write and fails at the writes named.
+fn check<R: Abort + Threads + Sync + AllocGlobal>(
+    rt: &R,
+    case: &Case<'_>,
+    out_fails: &[u32],
+    err_fails: &[u32],
+) -> Result<(), Fail> {
+    let alloc = rt.alloc();
+    let mut words = Texts::new(alloc);
+    for word in case.words {
+        words.push(Text::from_str(alloc, word)?)?;
+    }
+    let mut entries = Vec::new(alloc);
+    for (path, text) in case.files {
+        let bytes = Vec::from_slice(alloc, text.as_bytes())?;
+        entries.push((Text::from_str(alloc, path)?, bytes))?;
+    }
+    assert!(rt; are_distinct(&entries));
+    let mut files = MemFiles::new(alloc, entries, Vec::from_slice(alloc, case.failing)?);
+    let mut out = MemSink::new(alloc, 1000, 3, Vec::from_slice(alloc, out_fails)?)?;
+    let mut err = MemSink::new(alloc, 1000, 3, Vec::from_slice(alloc, err_fails)?)?;
+    let status = argot(rt, alloc, &words, &mut files, &mut out, &mut err);
+    assert_eq!(rt; status, case.status, "{:?}", case.words);
+    assert_eq!(rt; out.bytes(), case.out.as_bytes(), "{:?}", case.words);
+    assert_eq!(rt; err.bytes(), case.err.as_bytes(), "{:?}", case.words);
+    Ok(())
+}
+
+// Runs `taint` over the folder, with nothing failing.
+fn folder<R: Abort + Threads + Sync + AllocGlobal>(
+    rt: &R,
+    word: &str,
+    files: &[(&str, &str)],
+    status: Status,
+    out: &str,
+    err: &str,
+) -> Result<(), Fail> {
+    let case = Case {
+        words: &["taint", word],
+        files,
+        failing: &[],
+        status,
+        out,
+        err,
+    };
+    check(rt, &case, &[], &[])
+}
+
+// Runs words that ask for nothing.
+fn refused<R: Abort + Threads + Sync + AllocGlobal>(rt: &R, words: &[&str]) -> Result<(), Fail> {
+    let case = Case {
+        words,
+        files: &[("p/main.go", EMPTY)],
+        failing: &[],
+        status: Status::Refused,
+        out: "",
+        err: USAGE,
+    };
+    check(rt, &case, &[], &[])
+}
+
+#[test]
+fn words_that_ask_for_nothing_get_the_usage_line(rt: HostRuntime) -> Result<(), Fail> {
+    refused(&rt, &[])?;
+    refused(&rt, &["taint"])?;
+    refused(&rt, &["taint", "-x"])?;
+    refused(&rt, &["taint", ""])?;
+    refused(&rt, &["taint", "p", "p"])?;
+    refused(&rt, &["escape", "p"])?;
+    refused(&rt, &["taint", "-workers", "2", "p"])
+}
+
+#[test]
+fn folders_are_answered(rt: HostRuntime) -> Result<(), Fail> {
+    folder(&rt, "p", &[("p/main.go", EMPTY)], Status::Clean, CLEAN, "")?;
+    folder(
+        &rt,
+        "p///",
+        &[("p/main.go", EMPTY)],
+        Status::Clean,
+        CLEAN,
+        "",
+    )?;
+    folder(&rt, "/", &[("//main.go", EMPTY)], Status::Clean, CLEAN, "")?;
+    folder(&rt, "//", &[("//main.go", EMPTY)], Status::Clean, CLEAN, "")?;
+    let beside = [
+        ("p/main.go", EMPTY),
+        ("p/a_test.go", ""),
+        ("p/_x/a.go", ""),
+        ("p/testdata/a.go", ""),
+        ("p/.x/a.s", ""),
+        ("p/README.md", ""),
+    ];
+    folder(&rt, "p", &beside, Status::Clean, CLEAN, "")?;
+    folder(
+        &rt,
+        "p",
+        &[("q/main.go", EMPTY)],
+        Status::Refused,
+        "",
+        NO_MAIN,
+    )?;
+    folder(
+        &rt,
+        "p",
+        &[("p/_main.go", EMPTY)],
+        Status::Refused,
+        "",
+        NO_MAIN,
+    )
+}
+
+#[test]
+fn other_folders_are_not_of_the_form(rt: HostRuntime) -> Result<(), Fail> {
+    for (path, text) in [
+        ("p/go.mod", "module a\n"),
+        ("p/x/a.go", "package x\n"),
+        ("p/a.s", ""),
+    ] {
+        let files = [("p/main.go", EMPTY), (path, text)];
+        folder(&rt, "p", &files, Status::Unsupported, "", OTHER)?;
+    }
+    let files = [("p/main.go", "package main\nfunc main() {}\n")];
+    folder(&rt, "p", &files, Status::Unsupported, "", OTHER)
+}
+
+// Runs `taint p` over the smallest program with one call or write failing.
+fn failing<R: Abort + Threads + Sync + AllocGlobal>(
+    rt: &R,
+    words: &[&str],
+    call: u32,
+    write: u32,
+    status: Status,
+    out: &str,
+    err: &str,
+) -> Result<(), Fail> {
+    let case = Case {
+        words,
+        files: &[("p/main.go", EMPTY)],
+        failing: &[call],
+        status,
+        out,
+        err,
+    };
+    check(rt, &case, &[write], &[write])
+}
+
+#[test]
+fn faults_of_the_outside_are_answered(rt: HostRuntime) -> Result<(), Fail> {
+    let taint = ["taint", "p"];
+    failing(
+        &rt,
+        &taint,
+        1,
+        0,
+        Status::ReadFault,
+        "",
+        "argot: cannot list p\n",
+    )?;
+    failing(
+        &rt,
+        &taint,
+        2,
+        0,
+        Status::ReadFault,
+        "",
+        "argot: cannot read p/main.go\n",
+    )?;
+    failing(&rt, &taint, 0, 2, Status::WriteFault, "0 f", "")?;
+    failing(&rt, &[], 0, 2, Status::WriteFault, "", "arg")?;
+    failing(&rt, &taint, 1, 3, Status::WriteFault, "", "argot:")
+}
+
+#[test]
+fn a_file_has_at_most_4096_bytes(rt: HostRuntime) -> Result<(), Fail> {
+    let mut text = String::from_str(rt.alloc(), EMPTY)?;
+    for _ in EMPTY.len()..4096 {
+        text.push_str("\n")?;
+    }
+    folder(
+        &rt,
+        "p",
+        &[("p/main.go", text.as_str())],
+        Status::Clean,
+        CLEAN,
+        "",
+    )?;
+    text.push_str("\n")?;
+    folder(
+        &rt,
+        "p",
+        &[("p/main.go", text.as_str())],
+        Status::Unsupported,
+        "",
+        OTHER,
+    )
+}
