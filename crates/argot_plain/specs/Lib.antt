@@ -1,0 +1,4 @@
+pub mod Lists
+pub mod Code
+pub mod Nodes
+pub mod WellFormed
