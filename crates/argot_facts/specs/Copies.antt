@@ -7,7 +7,7 @@ use Rattle.argot_plain.specs.Machine.{is_covered}
 use Rattle.argot_plain.specs.declared.instructions.Kind.{Kind}
 use Rattle.argot_plain.specs.declared.instructions.Kind.TheVariants.{Op, Move, Join, Step, Read, Write, Grow, Assert, Call, Go, Defer, Leave, Passed}
 use Rattle.argot_plain.specs.declared.problems.Problem.{Problem}
-use Rattle.argot_text.specs.declared.PathStep.{PathStep}
+use Rattle.argot_text.specs.declared.path.PathStep.{PathStep}
 
 -- a part with this path and register stands in the list, and no later one replaces what stands at q
 pub data Lasts (path : List PathStep) (r : ℕ) (q : List PathStep) : List (List PathStep × ℕ) → Type 0 where

@@ -10,7 +10,7 @@ use Rattle.argot_plain.specs.declared.instructions.Callee.{Callee}
 use Rattle.argot_plain.specs.declared.instructions.Kind.{Kind}
 use Rattle.argot_plain.specs.declared.instructions.Kind.TheVariants.{Read, Write, Grow, Call, Go, Defer}
 use Rattle.argot_plain.specs.declared.problems.Problem.{Problem}
-use Rattle.argot_text.specs.declared.PathStep.{PathStep}
+use Rattle.argot_text.specs.declared.path.PathStep.{PathStep}
 use Rattle.argot_facts.specs.Copies.{Takes}
 use Rattle.argot_facts.specs.Escapes.{Escapes}
 use Rattle.argot_facts.specs.Follows.{Follows}

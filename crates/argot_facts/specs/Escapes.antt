@@ -5,8 +5,8 @@ use Rattle.argot_plain.specs.Nodes.{mark}
 use Rattle.argot_plain.specs.declared.functions.Ident.{Ident}
 use Rattle.argot_plain.specs.declared.instructions.Callee.{Callee}
 use Rattle.argot_plain.specs.declared.instructions.Kind.TheVariants.{Go}
-use Rattle.argot_text.specs.declared.Pos.{Pos}
-use Rattle.argot_text.specs.declared.PathStep.{PathStep}
+use Rattle.argot_text.specs.declared.position.Pos.{Pos}
+use Rattle.argot_text.specs.declared.path.PathStep.{PathStep}
 use Rattle.argot_facts.specs.Refers.{Holds, IsLivePlace, NodeRefers, PlaceRefers, loc}
 
 -- a package variable's site, one to which what a live Go hands on refers, or one to which a location of an escaping site does

@@ -7,7 +7,7 @@ use Rattle.argot_plain.specs.declared.instructions.Callee.{Callee}
 use Rattle.argot_plain.specs.declared.instructions.Kind.{Kind}
 use Rattle.argot_plain.specs.declared.instructions.Kind.TheVariants.{Call}
 use Rattle.argot_plain.specs.declared.problems.Problem.{Problem}
-use Rattle.argot_text.specs.declared.PathStep.{PathStep}
+use Rattle.argot_text.specs.declared.path.PathStep.{PathStep}
 use Rattle.argot_facts.specs.Edges.{Writes}
 use Rattle.argot_facts.specs.Escapes.{Escapes}
 use Rattle.argot_facts.specs.Graphs.{IsMarked, IsEdge}

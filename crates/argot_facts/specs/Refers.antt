@@ -12,8 +12,8 @@ use Rattle.argot_plain.specs.declared.instructions.Callee.TheVariants.{Static, V
 use Rattle.argot_plain.specs.declared.instructions.Kind.{Kind}
 use Rattle.argot_plain.specs.declared.instructions.Kind.TheVariants.{New, Step, Read, Write, Grow, Global, Assert, Call}
 use Rattle.argot_plain.specs.declared.sites.Site.{Site}
-use Rattle.argot_text.specs.declared.Pos.{Pos}
-use Rattle.argot_text.specs.declared.PathStep.{PathStep}
+use Rattle.argot_text.specs.declared.position.Pos.{Pos}
+use Rattle.argot_text.specs.declared.path.PathStep.{PathStep}
 use Rattle.argot_facts.specs.Copies.{Copies}
 use Rattle.argot_facts.specs.Reaching.{DefinedAt}
 

@@ -9,8 +9,8 @@ use Rattle.argot_plain.specs.declared.instructions.Instr.{Instr}
 use Rattle.argot_plain.specs.declared.instructions.Kind.{Kind}
 use Rattle.argot_plain.specs.declared.instructions.Kind.TheVariants.{Op, Move, Join, New, Step, Read, Write, Grow, Global, Assert, Call, Go, Defer, Leave, Goto, Branch, Panic, Passed}
 use Rattle.argot_plain.specs.declared.sites.Site.{Site}
-use Rattle.argot_text.specs.declared.Pos.{Pos}
-use Rattle.argot_text.specs.declared.PathStep.{PathStep}
+use Rattle.argot_text.specs.declared.position.Pos.{Pos}
+use Rattle.argot_text.specs.declared.path.PathStep.{PathStep}
 
 -- the functions, places, sites, package variables (each with its name, position and site), methods (by dynamic type and
 -- name), pairs of a dynamic type and a type that it is or implements, and files, each by its number

@@ -12,7 +12,7 @@ use Rattle.argot_plain.specs.declared.instructions.Callee.{Callee}
 use Rattle.argot_plain.specs.declared.instructions.Kind.TheVariants.{Read, Write, Grow, Call, Go, RunDefers}
 use Rattle.argot_plain.specs.declared.problems.Problem.{Problem}
 use Rattle.argot_plain.specs.declared.sites.Site.{Site}
-use Rattle.argot_text.specs.declared.PathStep.{PathStep}
+use Rattle.argot_text.specs.declared.path.PathStep.{PathStep}
 
 -- the top frame f of the goroutine g is about to enter the function h, which the instruction at the place t names; n arguments
 -- stand first among these handed values

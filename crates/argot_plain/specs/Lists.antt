@@ -1,7 +1,7 @@
 -- Words on lists and paths that the definitions share.
 use Rattle.std.specs.Prelude.{◌≡◌, ℕ, ◌==◌, ◌||◌, ◌&&◌, Bool, true, false, List, [], ◌∷◌, Option, Some, None, slice_get, if◌then◌else◌}
-use Rattle.argot_text.specs.declared.PathStep.{PathStep}
-use Rattle.argot_text.specs.declared.PathStep.TheVariants.{Field, Element, Key, Value, Channel, Capture}
+use Rattle.argot_text.specs.declared.path.PathStep.{PathStep}
+use Rattle.argot_text.specs.declared.path.PathStep.TheVariants.{Field, Element, Key, Value, Channel, Capture}
 
 -- x is in the list
 pub data In {A : Type 0} (x : A) : List A → Type 0 where

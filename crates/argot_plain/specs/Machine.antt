@@ -7,8 +7,8 @@ use Rattle.argot_plain.specs.Nodes.{Mark, mark}
 use Rattle.argot_plain.specs.declared.functions.Function.{Function}
 use Rattle.argot_plain.specs.declared.problems.Problem.{Problem}
 use Rattle.argot_plain.specs.declared.sites.Site.{Site}
-use Rattle.argot_text.specs.declared.PathStep.{PathStep}
-use Rattle.argot_text.specs.declared.PathStep.TheVariants.{Element}
+use Rattle.argot_text.specs.declared.path.PathStep.{PathStep}
+use Rattle.argot_text.specs.declared.path.PathStep.TheVariants.{Element}
 
 -- how labels are put: by a problem, and at the marks at which each atom gets the mark as a label of its own. There are none
 -- under a problem; where data is traced back they are those without an incoming edge

@@ -4,7 +4,7 @@ use Rattle.argot_plain.specs.Code.{Code, IsAt, IsIn, IsEntry, IsSiteOf, leaves, 
 use Rattle.argot_plain.specs.declared.instructions.Kind.{Kind}
 use Rattle.argot_plain.specs.declared.instructions.Kind.TheVariants.{Grow}
 use Rattle.argot_plain.specs.declared.sites.Site.{Site}
-use Rattle.argot_text.specs.declared.PathStep.{PathStep}
+use Rattle.argot_text.specs.declared.path.PathStep.{PathStep}
 
 -- a place, the index of a result, handed value or parameter there, and a leaf path
 pub record Mark : Type 0 where

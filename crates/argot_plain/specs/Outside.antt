@@ -10,7 +10,7 @@ use Rattle.argot_plain.specs.declared.functions.Function.{Function}
 use Rattle.argot_plain.specs.declared.instructions.Callee.{Callee}
 use Rattle.argot_plain.specs.declared.instructions.Callee.TheVariants.{Static, Value, Method}
 use Rattle.argot_plain.specs.declared.sites.Site.{Site}
-use Rattle.argot_text.specs.declared.PathStep.{PathStep}
+use Rattle.argot_text.specs.declared.path.PathStep.{PathStep}
 
 -- a value by which a callee means the function h, and whether that takes the value as its first parameter
 pub data Names (p : Code) : Callee → Datum → ℕ → Bool → Type 0 where

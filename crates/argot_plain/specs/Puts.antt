@@ -7,8 +7,8 @@ use Rattle.argot_plain.specs.Machine.{Labelling, Datum, Scalar, Ref, Content, co
 use Rattle.argot_plain.specs.declared.functions.Ident.{Ident}
 use Rattle.argot_plain.specs.declared.instructions.Kind.{Kind}
 use Rattle.argot_plain.specs.declared.instructions.Kind.TheVariants.{Op, Move, Join, New, Step, Read, Global, Assert, Goto, Branch, Passed}
-use Rattle.argot_text.specs.declared.Pos.{Pos}
-use Rattle.argot_text.specs.declared.PathStep.{PathStep}
+use Rattle.argot_text.specs.declared.position.Pos.{Pos}
+use Rattle.argot_text.specs.declared.path.PathStep.{PathStep}
 
 -- at each of these leaves of the register to, something that P allows there, put as result k of the place i
 pub data Fills (l : Labelling) (f : Change) (to i k : ℕ) (P : List PathStep → List Content → Type 0) : List (List PathStep) → List Cell → Type 0 where

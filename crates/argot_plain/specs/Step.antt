@@ -11,7 +11,7 @@ use Rattle.argot_plain.specs.declared.instructions.Callee.{Callee}
 use Rattle.argot_plain.specs.declared.instructions.Kind.{Kind}
 use Rattle.argot_plain.specs.declared.instructions.Kind.TheVariants.{Write, Grow, Call, Go, Defer, RunDefers, Leave}
 use Rattle.argot_plain.specs.declared.sites.Site.{Site}
-use Rattle.argot_text.specs.declared.PathStep.{PathStep}
+use Rattle.argot_text.specs.declared.path.PathStep.{PathStep}
 
 -- the frame at j, with these cells in place of what those registers held
 abbrev pub goes_on : Frame → List ℕ → List Cell → ℕ → Frame

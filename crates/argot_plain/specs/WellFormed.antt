@@ -13,9 +13,9 @@ use Rattle.argot_plain.specs.declared.instructions.Kind.{Kind}
 use Rattle.argot_plain.specs.declared.instructions.Kind.TheVariants.{Op, Move, Join, New, Step, Read, Write, Grow, Global, Assert, Call, Go, Defer, RunDefers, Leave, Goto, Branch, Passed}
 use Rattle.argot_plain.specs.declared.programs.Program.TheInside.{Inside}
 use Rattle.argot_plain.specs.declared.sites.Site.{Site}
-use Rattle.argot_text.specs.declared.Pos.{Pos}
-use Rattle.argot_text.specs.declared.PathStep.{PathStep}
-use Rattle.argot_text.specs.declared.PathStep.TheVariants.{Element, Capture}
+use Rattle.argot_text.specs.declared.position.Pos.{Pos}
+use Rattle.argot_text.specs.declared.path.PathStep.{PathStep}
+use Rattle.argot_text.specs.declared.path.PathStep.TheVariants.{Element, Capture}
 
 -- the lists of a program
 abbrev pub code_of : Inside → Code
