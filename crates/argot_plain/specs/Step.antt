@@ -38,6 +38,10 @@ view slots fresh frames = record { slots = slots; fresh = fresh; frames = frames
 abbrev pub handing : Code → Labelling → Frame → ℕ → Callee → List ℕ → List Cell
 handing p l f n callee args = handed p l f.function f.place n 0 (handed_values callee args) f.cells
 
+-- the values that the Leave at which the frame stands hands back
+abbrev pub leaving : Code → Labelling → Frame → List ℕ → List Cell
+leaving p l f from = handed p l f.function f.place 0 0 from f.cells
+
 -- a frame of the function h for such a call
 abbrev pub entering : Code → Labelling → Frame → ℕ → Callee → List ℕ → ℕ → Bool → Function → Frame
 entering p l f n callee args h takes fn = begins h fn (to_params p l h takes (length (arguments callee args)) fn (handing p l f n callee args)) f.place
@@ -74,8 +78,8 @@ pub data Acts (p : Code) (l : Labelling) (g : ℕ) : View → View → List (Lis
   act_grows_anew : {ss : List Slot} {n : ℕ} {f : Frame} {rest : List Frame} → (to at : ℕ) → (items : List ℕ) → (s : ℕ) → (site : Site) → (x : Content) → (j : ℕ)
       → IsAt p f.place (Grow to at items) → f.panics ≡ false → IsSiteOf p f.place s site → In x (value_at at [] f.cells) → Next (Grow to at items) f.place j
       → Acts p l g (view ss n (f ∷ rest))
-          (view (added p l f.place (record { site = s; maker = g; serial = n }) [] items (element_leaves site) f.cells ++ recopied p l f.place (record { site = s; maker = g; serial = n }) x.value (element_leaves site) ss ++ ss) (n + 1)
-            (goes_on f (to ∷ []) (put_cell l same_labels to f.place 0 [] (content (fresh_object s g n) x.labels) ∷ []) j ∷ rest)) [] false
+      (view (added p l f.place (record { site = s; maker = g; serial = n }) [] items (element_leaves site) f.cells ++ recopied p l f.place (record { site = s; maker = g; serial = n }) x.value (element_leaves site) ss ++ ss) (n + 1)
+      (goes_on f (to ∷ []) (put_cell l same_labels to f.place 0 [] (content (fresh_object s g n) x.labels) ∷ []) j ∷ rest)) [] false
   -- a Call of a function with a body
   act_enters : {ss : List Slot} {n : ℕ} {f : Frame} {rest : List Frame} → (to : List ℕ) → (callee : Callee) → (args : List ℕ) → (h : ℕ) → (takes : Bool) → (fn : Function)
       → IsAt p f.place (Call to callee args) → f.panics ≡ false → Resolves p f.cells callee (Found h takes) → IsFunction p h fn → fn.external ≡ None
@@ -114,7 +118,7 @@ pub data Acts (p : Code) (l : Labelling) (g : ℕ) : View → View → List (Lis
   -- back to a Call
   act_leaves : {ss : List Slot} {n : ℕ} {f e : Frame} {rest : List Frame} → (from to : List ℕ) → (callee : Callee) → (args : List ℕ) → (j : ℕ)
       → IsAt p f.place (Leave from) → f.panics ≡ false → f.site ≡ e.place → IsAt p e.place (Call to callee args) → Next (Call to callee args) e.place j
-      → Acts p l g (view ss n (f ∷ e ∷ rest)) (view ss n (goes_on e to (returned p l (result_labels p l e.place f.function) e.function e.place 0 to from f.cells) j ∷ rest)) [] false
+      → Acts p l g (view ss n (f ∷ e ∷ rest)) (view ss n (goes_on e to (returned p l (result_labels p l e.place f.function) e.function e.place 0 to (leaving p l f from)) j ∷ rest)) [] false
   -- back to an exit
   act_leaves_deferred : {ss : List Slot} {n : ℕ} {f e : Frame} {rest : List Frame} → (from : List ℕ)
       → IsAt p f.place (Leave from) → f.panics ≡ false → IsAt p e.place RunDefers
