@@ -15,7 +15,7 @@ use Rattle.argot_sound.specs.Laws.{EachFrame, Stands, IsDefined, FrameDefined}
 use Rattle.argot_sound.proofs.Lists.{member_at}
 
 -- a frame that panics does not also stay calm
-both_ways : {A : Type 0} (b : Bool) → b ≡ true → b ≡ false → A
+pub both_ways : {A : Type 0} (b : Bool) → b ≡ true → b ≡ false → A
 both_ways b t f = absurd cc
 
 module _ (p : Code) (wf : WellFormed p) where

@@ -14,3 +14,4 @@ pub mod Runs
 pub mod Leaks
 pub mod Shared
 pub mod Conclusion
+pub mod Progress

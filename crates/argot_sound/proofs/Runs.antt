@@ -30,7 +30,7 @@ meets p g gs frames x get (inr b) m =
     inr (subst (TopFollows p x.atom.put.place) same b.2)
 
 -- covered frames stand in their functions
-stand_inside : (p : Code) (frames : List Frame) → EachFrame (FrameCovered p) frames → EachFrame (StandsInside p) frames
+pub stand_inside : (p : Code) (frames : List Frame) → EachFrame (FrameCovered p) frames → EachFrame (StandsInside p) frames
 stand_inside p [] v = tt
 stand_inside p (f ∷ rest) v = (v.0.place, stand_inside p rest v.1)
 

@@ -3,7 +3,7 @@
 //! contracts of the functions of this crate, which do nothing when they run.
 #![tactic(auto)]
 
-ghost use Rattle.argot_sound.specs.Sound.{EachLeakIsAFlow, EachSharedObjectEscapes, EachLabelThereIsAnEscape, EachLabelAtAPointIsAnOrigin};
+ghost use Rattle.argot_sound.specs.Sound.{EachLeakIsAFlow, EachSharedObjectEscapes, EachLabelThereIsAnEscape, EachLabelAtAPointIsAnOrigin, EachLiveGoroutineHasAStep};
 
 /// Each leak of a run is a flow: where a program has no flow, no run of it leaks.
 pub fn each_leak_is_a_flow()
@@ -19,4 +19,9 @@ pub fn what_is_shared_escapes()
 /// Where data is traced back, each label at a point is an origin.
 pub fn each_label_at_a_point_is_an_origin()
     ensures { EachLabelAtAPointIsAnOrigin }
+{}
+
+/// Where a program hasn't ended, each of its goroutines that hasn't ended has a step.
+pub fn each_live_goroutine_has_a_step()
+    ensures { EachLiveGoroutineHasAStep }
 {}
