@@ -1,0 +1,13 @@
+pub mod Reaching
+pub mod Copies
+pub mod Refers
+pub mod Escapes
+pub mod Follows
+pub mod Edges
+pub mod Lists
+pub mod Graphs
+pub mod Flows
+pub mod Origins
+pub mod Summaries
+pub mod Parents
+pub mod Traces

@@ -1,0 +1,10 @@
+pub mod Lists
+pub mod Code
+pub mod Nodes
+pub mod WellFormed
+pub mod Counts
+pub mod Machine
+pub mod Puts
+pub mod Outside
+pub mod Step
+pub mod Leak

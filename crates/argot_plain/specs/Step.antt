@@ -1,0 +1,151 @@
+-- The steps of the machine, and its runs.
+use Rattle.std.specs.Prelude.{◌≡◌, ℕ, suc, ◌+◌, ◌==◌, length, List, [], ◌∷◌, ◌++◌, Some, None, slice_get, slice_set, Bool, true, false}
+use Rattle.argot_plain.specs.Lists.{In}
+use Rattle.argot_plain.specs.Code.{Code, IsAt, IsFunction, IsSiteOf, leaves, element_leaves, defined, Next, arguments, handed_values}
+use Rattle.argot_plain.specs.Machine.{Labelling, Ref, Content, content, Object, Cell, Slot, Target, Missing, Found, Deferred, Frame, View, State, put_cell, same_labels, value_at, kept, handed, to_params, returned, written, after_write, added, recopied}
+use Rattle.argot_plain.specs.Outside.{Resolves, CarriesOn, ExternalGives, result_labels}
+use Rattle.argot_plain.specs.Nodes.{Mark}
+use Rattle.argot_plain.specs.Puts.{Gives, fresh_object}
+use Rattle.argot_plain.specs.declared.functions.Function.{Function}
+use Rattle.argot_plain.specs.declared.instructions.Callee.{Callee}
+use Rattle.argot_plain.specs.declared.instructions.Kind.{Kind}
+use Rattle.argot_plain.specs.declared.instructions.Kind.TheVariants.{Write, Grow, Call, Go, Defer, RunDefers, Leave}
+use Rattle.argot_plain.specs.declared.sites.Site.{Site}
+use Rattle.argot_text.specs.declared.path.PathStep.{PathStep}
+
+-- the frame at j, with these cells in place of what those registers held
+abbrev pub goes_on : Frame → List ℕ → List Cell → ℕ → Frame
+goes_on f regs given j = record f { place = j; cells = given ++ kept regs f.cells }
+
+abbrev pub at_place : Frame → ℕ → Frame
+at_place f j = record f { place = j }
+
+-- a frame that begins to panic
+abbrev pub panicking : Frame → Function → Frame
+panicking f fn = record f { place = fn.exit; panics = true; began = true }
+
+abbrev pub with_records : Frame → List Deferred → Frame
+with_records f ds = record f { records = ds }
+
+-- a frame at the first place of the function h
+abbrev pub begins : ℕ → Function → List Cell → ℕ → Frame
+begins h fn cells site = record { function = h; place = fn.entry; cells = cells; records = []; site = site; panics = false; began = false }
+
+abbrev pub view : List Slot → ℕ → List Frame → View
+view slots fresh frames = record { slots = slots; fresh = fresh; frames = frames }
+
+-- the handed values of the Call, Go or Defer at which the frame stands, behind n results
+abbrev pub handing : Code → Labelling → Frame → ℕ → Callee → List ℕ → List Cell
+handing p l f n callee args = handed p l f.function f.place n 0 (handed_values callee args) f.cells
+
+-- the values that the Leave at which the frame stands hands back
+abbrev pub leaving : Code → Labelling → Frame → List ℕ → List Cell
+leaving p l f from = handed p l f.function f.place 0 0 from f.cells
+
+-- a frame of the function h for such a call
+abbrev pub entering : Code → Labelling → Frame → ℕ → Callee → List ℕ → ℕ → Bool → Function → Frame
+entering p l f n callee args h takes fn = begins h fn (to_params p l h takes (length (arguments callee args)) fn (handing p l f n callee args)) f.place
+
+-- a frame of the function h for a deferred call
+abbrev pub resuming : Code → Labelling → Deferred → ℕ → Bool → Function → Frame
+resuming p l d h takes fn = begins h fn (to_params p l h takes d.count fn d.cells) d.place
+
+-- the record of the Defer at which the frame stands
+abbrev pub record_of : Code → Labelling → Frame → Callee → List ℕ → Target → Deferred
+record_of p l f callee args target = record { place = f.place; target = target; count = length (arguments callee args); cells = handing p l f 0 callee args }
+
+-- one step of the goroutine g: what it acts on before and after, the goroutines that it starts, and whether the program ends
+pub data Acts (p : Code) (l : Labelling) (g : ℕ) : View → View → List (List Frame) → Bool → Type 0 where
+  act_puts : {ss : List Slot} {n : ℕ} {f : Frame} {rest : List Frame} → (kind : Kind) → (given : List Cell) → (j : ℕ)
+      → IsAt p f.place kind → f.panics ≡ false → Gives p l kind g f.function f.place ss n f.cells given → Next kind f.place j
+      → Acts p l g (view ss n (f ∷ rest)) (view ss (n + 1) (goes_on f (defined kind) given j ∷ rest)) [] false
+  act_stores : {ss : List Slot} {n : ℕ} {f : Frame} {rest : List Frame} → (at from : ℕ) → (o : Object) → (base : List PathStep) → (x : Content) → (j : ℕ)
+      → IsAt p f.place (Write at from) → f.panics ≡ false → In x (value_at at [] f.cells) → x.value ≡ Ref o base → Next (Write at from) f.place j
+      → Acts p l g (view ss n (f ∷ rest)) (view (after_write (written p l f.place from o base (leaves p f.function from) f.cells) ss) n (at_place f j ∷ rest)) [] false
+  -- a Write of nothing goes on without a reference too
+  act_stores_nothing : {ss : List Slot} {n : ℕ} {f : Frame} {rest : List Frame} → (at from j : ℕ)
+      → IsAt p f.place (Write at from) → f.panics ≡ false → leaves p f.function from ≡ [] → Next (Write at from) f.place j
+      → Acts p l g (view ss n (f ∷ rest)) (view ss n (at_place f j ∷ rest)) [] false
+  -- a Grow in place
+  act_grows : {ss : List Slot} {n : ℕ} {f : Frame} {rest : List Frame} → (to at : ℕ) → (items : List ℕ) → (s : ℕ) → (site : Site) → (o : Object) → (base : List PathStep) → (x : Content) → (j : ℕ)
+      → IsAt p f.place (Grow to at items) → f.panics ≡ false → IsSiteOf p f.place s site → In x (value_at at [] f.cells) → x.value ≡ Ref o base → Next (Grow to at items) f.place j
+      → Acts p l g (view ss n (f ∷ rest)) (view (added p l f.place o base items (element_leaves site) f.cells ++ ss) n (goes_on f (to ∷ []) (put_cell l same_labels to f.place 0 [] x ∷ []) j ∷ rest)) [] false
+  -- a Grow of nothing by nothing
+  act_grows_nothing : {ss : List Slot} {n : ℕ} {f : Frame} {rest : List Frame} → (to at : ℕ) → (x : Content) → (j : ℕ)
+      → IsAt p f.place (Grow to at []) → f.panics ≡ false → In x (value_at at [] f.cells) → ((o : Object) (base : List PathStep) → x.value ≡ Ref o base → ⊥) → Next (Grow to at []) f.place j
+      → Acts p l g (view ss n (f ∷ rest)) (view ss n (goes_on f (to ∷ []) (put_cell l same_labels to f.place 0 [] x ∷ []) j ∷ rest)) [] false
+  -- a Grow in a fresh copy, which has the labels of the reference
+  act_grows_anew : {ss : List Slot} {n : ℕ} {f : Frame} {rest : List Frame} → (to at : ℕ) → (items : List ℕ) → (s : ℕ) → (site : Site) → (x : Content) → (j : ℕ)
+      → IsAt p f.place (Grow to at items) → f.panics ≡ false → IsSiteOf p f.place s site → In x (value_at at [] f.cells) → Next (Grow to at items) f.place j
+      → Acts p l g (view ss n (f ∷ rest))
+      (view (added p l f.place (record { site = s; maker = g; serial = n }) [] items (element_leaves site) f.cells ++ recopied p l f.place (record { site = s; maker = g; serial = n }) x.value (element_leaves site) ss ++ ss) (n + 1)
+      (goes_on f (to ∷ []) (put_cell l same_labels to f.place 0 [] (content (fresh_object s g n) x.labels) ∷ []) j ∷ rest)) [] false
+  -- a Call of a function with a body
+  act_enters : {ss : List Slot} {n : ℕ} {f : Frame} {rest : List Frame} → (to : List ℕ) → (callee : Callee) → (args : List ℕ) → (h : ℕ) → (takes : Bool) → (fn : Function)
+      → IsAt p f.place (Call to callee args) → f.panics ≡ false → Resolves p f.cells callee (Found h takes) → IsFunction p h fn → fn.external ≡ None
+      → Acts p l g (view ss n (f ∷ rest)) (view ss n (entering p l f (length to) callee args h takes fn ∷ f ∷ rest)) [] false
+  -- a Call of an external is done in one step
+  act_calls_outside : {ss : List Slot} {n : ℕ} {f : Frame} {rest : List Frame} → (to : List ℕ) → (callee : Callee) → (args : List ℕ) → (h : ℕ) → (takes : Bool) → (fn : Function) → (flows : Bool) → (ls : List Mark) → (given : List Cell) → (j : ℕ)
+      → IsAt p f.place (Call to callee args) → f.panics ≡ false → Resolves p f.cells callee (Found h takes) → IsFunction p h fn → fn.external ≡ Some flows
+      → CarriesOn flows (length (arguments callee args)) (handing p l f (length to) callee args) ss ls
+      → ExternalGives p l f.function f.place h g n ls 0 to given → Next (Call to callee args) f.place j
+      → Acts p l g (view ss n (f ∷ rest)) (view ss (n + 1) (goes_on f to given j ∷ rest)) [] false
+  -- a Go of a function with a body; of an external it does nothing
+  act_starts : {ss : List Slot} {n : ℕ} {f : Frame} {rest : List Frame} → (callee : Callee) → (args : List ℕ) → (h : ℕ) → (takes : Bool) → (fn : Function) → (j : ℕ)
+      → IsAt p f.place (Go callee args) → f.panics ≡ false → Resolves p f.cells callee (Found h takes) → IsFunction p h fn → fn.external ≡ None → Next (Go callee args) f.place j
+      → Acts p l g (view ss n (f ∷ rest)) (view ss n (at_place f j ∷ rest)) ((entering p l f 0 callee args h takes fn ∷ []) ∷ []) false
+  act_starts_outside : {ss : List Slot} {n : ℕ} {f : Frame} {rest : List Frame} → (callee : Callee) → (args : List ℕ) → (h : ℕ) → (takes : Bool) → (fn : Function) → (flows : Bool) → (j : ℕ)
+      → IsAt p f.place (Go callee args) → f.panics ≡ false → Resolves p f.cells callee (Found h takes) → IsFunction p h fn → fn.external ≡ Some flows → Next (Go callee args) f.place j
+      → Acts p l g (view ss n (f ∷ rest)) (view ss n (at_place f j ∷ rest)) [] false
+  -- a Defer keeps what it is handed
+  act_keeps : {ss : List Slot} {n : ℕ} {f : Frame} {rest : List Frame} → (callee : Callee) → (args : List ℕ) → (target : Target) → (j : ℕ)
+      → IsAt p f.place (Defer callee args) → f.panics ≡ false → Resolves p f.cells callee target → Next (Defer callee args) f.place j
+      → Acts p l g (view ss n (f ∷ rest)) (view ss n (with_records (at_place f j) (record_of p l f callee args target ∷ f.records) ∷ rest)) [] false
+  -- an exit with a record, the last one first: of a function with a body, of an external, or of nothing
+  act_runs : {ss : List Slot} {n : ℕ} {f : Frame} {rest : List Frame} → (d : Deferred) → (ds : List Deferred) → (h : ℕ) → (takes : Bool) → (fn : Function)
+      → IsAt p f.place RunDefers → f.records ≡ d ∷ ds → d.target ≡ Found h takes → IsFunction p h fn → fn.external ≡ None
+      → Acts p l g (view ss n (f ∷ rest)) (view ss n (resuming p l d h takes fn ∷ with_records f ds ∷ rest)) [] false
+  act_runs_outside : {ss : List Slot} {n : ℕ} {f : Frame} {rest : List Frame} → (d : Deferred) → (ds : List Deferred) → (h : ℕ) → (takes : Bool) → (fn : Function) → (flows : Bool)
+      → IsAt p f.place RunDefers → f.records ≡ d ∷ ds → d.target ≡ Found h takes → IsFunction p h fn → fn.external ≡ Some flows
+      → Acts p l g (view ss n (f ∷ rest)) (view ss n (with_records f ds ∷ rest)) [] false
+  act_runs_nothing : {ss : List Slot} {n : ℕ} {f : Frame} {rest : List Frame} → (d : Deferred) → (ds : List Deferred) → (fn : Function)
+      → IsAt p f.place RunDefers → f.records ≡ d ∷ ds → d.target ≡ Missing → IsFunction p f.function fn
+      → Acts p l g (view ss n (f ∷ rest)) (view ss n (panicking (with_records f ds) fn ∷ rest)) [] false
+  -- an exit without records
+  act_exits : {ss : List Slot} {n : ℕ} {f : Frame} {rest : List Frame} → (j : ℕ)
+      → IsAt p f.place RunDefers → f.panics ≡ false → f.records ≡ [] → Next RunDefers f.place j
+      → Acts p l g (view ss n (f ∷ rest)) (view ss n (at_place f j ∷ rest)) [] false
+  -- back to a Call
+  act_leaves : {ss : List Slot} {n : ℕ} {f e : Frame} {rest : List Frame} → (from to : List ℕ) → (callee : Callee) → (args : List ℕ) → (j : ℕ)
+      → IsAt p f.place (Leave from) → f.panics ≡ false → f.site ≡ e.place → IsAt p e.place (Call to callee args) → Next (Call to callee args) e.place j
+      → Acts p l g (view ss n (f ∷ e ∷ rest)) (view ss n (goes_on e to (returned p l (result_labels p l e.place f.function) e.function e.place 0 to (leaving p l f from)) j ∷ rest)) [] false
+  -- back to an exit
+  act_leaves_deferred : {ss : List Slot} {n : ℕ} {f e : Frame} {rest : List Frame} → (from : List ℕ)
+      → IsAt p f.place (Leave from) → f.panics ≡ false → IsAt p e.place RunDefers
+      → Acts p l g (view ss n (f ∷ e ∷ rest)) (view ss n (e ∷ rest)) [] false
+  -- the end of a goroutine, and with the first one of the program
+  act_ends : {ss : List Slot} {n : ℕ} {f : Frame} → (from : List ℕ) → IsAt p f.place (Leave from) → f.panics ≡ false
+      → Acts p l g (view ss n (f ∷ [])) (view ss n []) [] (g == 0)
+  -- at any place
+  act_panics : {ss : List Slot} {n : ℕ} {f : Frame} {rest : List Frame} → (fn : Function) → IsFunction p f.function fn → f.panics ≡ false
+      → Acts p l g (view ss n (f ∷ rest)) (view ss n (panicking f fn ∷ rest)) [] false
+  -- a frame that panics, without records
+  act_drops : {ss : List Slot} {n : ℕ} {f e : Frame} {rest : List Frame} → (fn : Function) → IsAt p f.place RunDefers → f.panics ≡ true → f.records ≡ [] → IsFunction p e.function fn
+      → Acts p l g (view ss n (f ∷ e ∷ rest)) (view ss n (panicking e fn ∷ rest)) [] false
+  act_drops_last : {ss : List Slot} {n : ℕ} {f : Frame} → IsAt p f.place RunDefers → f.panics ≡ true → f.records ≡ []
+      → Acts p l g (view ss n (f ∷ [])) (view ss n []) [] true
+
+-- a step of any goroutine, while the program hasn't ended
+pub data OneStep (p : Code) (l : Labelling) : State → State → Type 0 where
+  one_step : {s : State} {v : View} {started : List (List Frame)} {ended : Bool} → (g : ℕ) → (frames : List Frame)
+      → s.ended ≡ false → slice_get s.goroutines g ≡ Some frames → Acts p l g (view s.slots s.fresh frames) v started ended
+      → OneStep p l s (record { slots = v.slots; fresh = v.fresh; goroutines = slice_set s.goroutines g v.frames ++ started; ended = ended })
+
+-- the state in which a run begins: one goroutine with one frame of the entry
+abbrev pub opening : Function → State
+opening fn = record { slots = []; fresh = 1; goroutines = (begins 0 fn [] 0 ∷ []) ∷ []; ended = false }
+
+-- a run of n steps, and the state that it leads to
+pub data Run (p : Code) (l : Labelling) : ℕ → State → Type 0 where
+  no_step : (fn : Function) → IsFunction p 0 fn → Run p l 0 (opening fn)
+  then_step : {n : ℕ} {mid new : State} → Run p l n mid → OneStep p l mid new → Run p l (suc n) new

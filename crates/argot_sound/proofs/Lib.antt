@@ -1,0 +1,17 @@
+pub mod Lists
+pub mod Puts
+pub mod Given
+pub mod Handing
+pub mod Effects
+pub mod Defined
+pub mod Points
+pub mod Covered
+pub mod Owned
+pub mod Ordered
+pub mod Reached
+pub mod Joined
+pub mod Runs
+pub mod Leaks
+pub mod Shared
+pub mod Conclusion
+pub mod Progress
