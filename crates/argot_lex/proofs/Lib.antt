@@ -1,0 +1,14 @@
+pub mod Chars
+pub mod Fronting
+pub mod Elements
+pub mod CommentSteps
+pub mod FormSteps
+pub mod Automaton
+pub mod NumberLaws
+pub mod Runs
+pub mod NameLaws
+pub mod TextLaws
+pub mod CommentLaws
+pub mod MarkLaws
+pub mod FrontLaws
+pub mod Cuts

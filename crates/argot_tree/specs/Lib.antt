@@ -1,0 +1,9 @@
+pub mod Forms
+pub mod Numbers
+pub mod Characters
+pub mod Names
+pub mod Literals
+pub mod Marks
+pub mod Comments
+pub mod Pieces
+pub mod Text
