@@ -1,0 +1,4 @@
+pub mod Bitwise
+pub mod Dividing
+pub mod Narrow
+pub mod Shifts

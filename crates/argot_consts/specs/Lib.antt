@@ -1,0 +1,4 @@
+pub mod Whole
+pub mod Halves
+pub mod Fold
+pub mod Laws

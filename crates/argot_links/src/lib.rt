@@ -1,0 +1,22 @@
+//! Structures linked by index, each with one allocation and none while it is used: lists through one column
+//! of links (`Chains`), a queue threaded through the numbers that it holds (`Queue`), and for each row a set of
+//! columns in packed words (`Rows`).
+//!
+//! Contracts see `Chains` as its lists (`specs/Chained`), `Queue` as a list of distinct numbers (`specs/Waiting`)
+//! and `Rows` as ascending lists of columns (`specs/Table`), which clients read by the test `has`. `Rows::join`
+//! goes by words, and a walk over a row skips its empty words.
+#![tactic(auto)]
+
+mod bits;
+mod chains;
+pub mod laws;
+mod queue;
+mod rows;
+mod words;
+
+pub use chains::{Cell, ChainWalk, Chains};
+pub use queue::Queue;
+pub use rows::{RowWalk, Rows};
+
+#[cfg(test)]
+mod tests;
