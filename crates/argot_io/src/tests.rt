@@ -107,6 +107,7 @@ fn real_folders_are_walked_and_files_read(rt: HostRuntime) -> Result<(), Fail> {
     assert_eq!(rt; bytes.as_slice(), b"package sub\n".as_slice());
     assert_eq!(rt; files.read(alloc, "p/none").err(), Some(FilesFault::Failed));
     assert!(rt; files.list(alloc, "none").is_err());
+    fs::remove_dir_all(&rt, "p")?;
     Ok(())
 }
 
@@ -121,5 +122,6 @@ fn a_stream_takes_bytes_or_counts_a_fault(rt: HostRuntime) -> Result<(), Fail> {
     );
     let mut closed = StdSink::new(fs::open(&rt, "taken")?);
     assert_eq!(rt; closed.write(b"x"), Err(SinkFault::Failed));
+    fs::remove_file(&rt, "taken")?;
     Ok(())
 }
