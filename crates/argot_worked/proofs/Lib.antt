@@ -1,1 +1,3 @@
 pub mod Leaking
+pub mod Places
+pub mod Edges

@@ -7,7 +7,8 @@
 --   6     x := source()
 --   7     sink(x)
 --   8 }
-use Rattle.std.specs.Prelude.{ℕ, false, List, [], ◌∷◌, Some, None, codes}
+use Rattle.std.specs.Prelude.{◌↔◌, ℕ, false, List, [], ◌∷◌, Some, None, codes}
+use Rattle.argot_plain.specs.Lists.{In}
 use Rattle.argot_plain.specs.Code.{Code}
 use Rattle.argot_plain.specs.Leak.{Leak, labelled}
 use Rattle.argot_plain.specs.Machine.{State}
@@ -22,6 +23,10 @@ use Rattle.argot_plain.specs.declared.instructions.Kind.TheVariants.{Op, Move, C
 use Rattle.argot_plain.specs.declared.problems.Problem.{Problem}
 use Rattle.argot_text.specs.declared.position.Pos.{Pos}
 use Rattle.argot_text.specs.declared.path.PathStep.{PathStep}
+use Rattle.argot_facts.specs.Graphs.{AreNodes, IsEdge}
+use Rattle.argot_facts.specs.declared.graphs.EdgeKind.{EdgeKind}
+use Rattle.argot_facts.specs.declared.graphs.EdgeKind.TheVariants.{Plain, Call as Enters, Return}
+use Rattle.argot_facts.specs.declared.nodes.Node.{Node}
 
 abbrev pub at : ℕ → ℕ → Pos
 at line col = record { file = 0; line = line; col = col }
@@ -69,3 +74,23 @@ asked = record { number = 0; name = codes "default"; sources = 1 ∷ []; sinks =
 -- some run leads to a state in which the label of the call at the place 15 is on argument 0 of the call at the place 17
 abbrev pub ItLeaks : Type 0
 ItLeaks = (n : ℕ) × (x : State) × Run first_flow (labelled asked) n x × Leak first_flow asked x 15 17 0
+
+abbrev pub node : ℕ → ℕ → Node
+node place index = record { place = place; index = index; leaf = 0 }
+
+abbrev pub its_nodes : List Node
+its_nodes = node 6 0 ∷ node 7 0 ∷ node 10 0 ∷ node 11 0 ∷ node 15 0 ∷ node 16 0 ∷ node 17 0 ∷ []
+
+abbrev pub edge : ℕ → ℕ → EdgeKind → ℕ → ℕ → Node × EdgeKind × Node
+edge a i kind b j = (node a i, kind, node b j)
+
+abbrev pub its_edges : List (Node × EdgeKind × Node)
+its_edges = edge 6 0 Plain 7 0 ∷ edge 7 0 Plain 10 0 ∷ edge 10 0 (Return 15) 15 0 ∷ edge 15 0 Plain 16 0 ∷ edge 16 0 Plain 17 0 ∷ edge 17 0 (Enters 17) 11 0 ∷ []
+
+-- these are its nodes, in node order, and no more
+abbrev pub ItHasSevenNodes : Type 0
+ItHasSevenNodes = AreNodes first_flow its_nodes
+
+-- these are its edges, and no more
+abbrev pub ItHasSixEdges : Type 0
+ItHasSixEdges = (a : Node) (kind : EdgeKind) (b : Node) → IsEdge first_flow asked a kind b ↔ In (a, kind, b) its_edges

@@ -1,0 +1,8 @@
+use Rattle.argot_worked.proofs.Edges.{seven_nodes, six_edges}
+use Rattle.argot_worked.proofs.first_flow_is_drawn.Goals as goal
+
+pub returns-clause-nodes : goal.returns-clause-nodes
+returns-clause-nodes c = seven_nodes
+
+pub returns-clause-edges : goal.returns-clause-edges
+returns-clause-edges c = six_edges
