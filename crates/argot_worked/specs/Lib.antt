@@ -1,1 +1,5 @@
 pub mod FirstFlow
+pub mod FilledBox
+pub mod DeferredCall
+pub mod CalledMethod
+pub mod ReadFirst

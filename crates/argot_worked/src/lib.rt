@@ -3,6 +3,10 @@
 #![tactic(auto)]
 
 ghost use Rattle.argot_worked.specs.FirstFlow.{ItLeaks, ItHasSevenNodes, ItHasSixEdges};
+ghost use Rattle.argot_worked.specs.FilledBox.{ItLeaks as FilledBoxLeaks};
+ghost use Rattle.argot_worked.specs.DeferredCall.{ItEnds as DeferredCallEnds};
+ghost use Rattle.argot_worked.specs.CalledMethod.{ItEnds as CalledMethodEnds};
+ghost use Rattle.argot_worked.specs.ReadFirst.{ItEnds as ReadFirstEnds};
 
 /// The first program has a run that leaks: the call of its source reaches argument 0 of its sink.
 pub fn first_flow_leaks()
@@ -13,4 +17,24 @@ pub fn first_flow_leaks()
 pub fn first_flow_is_drawn()
     ensures nodes { ItHasSevenNodes }
     ensures edges { ItHasSixEdges }
+{}
+
+/// A goroutine fills a box with secret data before it is read: the label of its source reaches the sink.
+pub fn filled_box_leaks()
+    ensures { FilledBoxLeaks }
+{}
+
+/// A deferred call of a sink runs at the exit, with what it was handed; the program ends.
+pub fn deferred_call_ends()
+    ensures { DeferredCallEnds }
+{}
+
+/// A method is found by the type of the value in the box; the program ends.
+pub fn called_method_ends()
+    ensures { CalledMethodEnds }
+{}
+
+/// A box is read before secret data is written to it; the program ends.
+pub fn read_first_ends()
+    ensures { ReadFirstEnds }
 {}
