@@ -2,6 +2,10 @@
 //! program ends with. All that it does otherwise is done by `argot_run::argot`.
 #![tactic(auto)]
 
+ghost use Rattle.std.specs.Prelude.{◌≡◌};
+ghost use Rattle.std.specs.Process.{exit_status};
+ghost use Rattle.argot_run.specs.Codes.{code_of};
+
 use argot_io::{RealFiles, StdSink};
 use argot_run::{Status, argot};
 use argot_text::{Memory, Text, Texts};
@@ -22,6 +26,13 @@ fn main(rt: HostRuntime) -> ExitCode {
         }
         Err(_) => Status::Memory,
     };
+    ended(status)
+}
+
+// The end of the program with the number of the status.
+fn ended(status: Status) -> ExitCode
+    ensures { exit_status result ≡ code_of status }
+{
     ExitCode::from(status.code())
 }
 

@@ -56,6 +56,7 @@ pub trait Files {
     /// The bytes of the file at the path.
     fn read(&mut self, alloc: Global, path: &str) -> Result<Vec<u8>, FilesFault>
         ensures told { told self.new ≡ told self.old }
+        ensures distinct { IfSome (told self.old) HasDistinctPaths }
         ensures bytes { IfOk result (λ bytes. ReadsTold (told self.old) path.now bytes.items) }
         ensures cause { HasCause result (faults self.old) (faults self.new) (last self.old) (last self.new) (FilesCall.Reading path.now) };
 }

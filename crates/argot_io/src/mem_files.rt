@@ -1,5 +1,5 @@
 // Files in memory, which fail where they are told to.
-ghost use Rattle.std.specs.Prelude.{◌≡◌, ◌⊎◌, Contains, IfOk, IfSome, IsErrOf, IsOk, None, Some};
+ghost use Rattle.std.specs.Prelude.{◌≡◌, ◌⊎◌, ◌↔◌, Contains, IsTrue, IfOk, IfSome, IsErrOf, IsOk, None, Some};
 ghost use Rattle.argot_io.specs.Entries.{entries_of};
 ghost use Rattle.argot_io.specs.Faults.{HasCause};
 ghost use Rattle.argot_io.specs.Memory.{counted};
@@ -66,22 +66,13 @@ impl MemFiles {
         &self.last
     }
 
-    // Counts the call, and fails it where its number says so.
-    fn begin(&mut self, call: FilesCall) -> Result<(), FilesFault>
-        ensures entries { self.new.entries ≡ self.old.entries }
-        ensures failing { self.new.failing ≡ self.old.failing }
-        ensures calls { self.new.calls ≡ counted self.old.calls }
-        ensures cause { HasCause result self.old.faults self.new.faults self.old.last self.new.last call }
-        ensures only { IsErrOf result FilesFault.Failed → Contains self.old.failing (counted self.old.calls) }
-        ensures surely { Contains self.old.failing (counted self.old.calls) → IsErrOf result FilesFault.Failed }
-        ensures memory { IsErrOf result FilesFault.Memory → ⊥ }
+    // Counts the call, and tells whether it is one that fails.
+    fn begin(&mut self) -> bool
+        ensures named { IsTrue result ↔ Contains self.old.failing (counted self.old.calls) }
+        ensures counts { self.new ≡ record self.old { calls = counted self.old.calls } }
     {
-        let number = self.calls.saturating_add(1);
-        self.calls = number;
-        if is_among(self.failing.as_slice(), number) {
-            return self.fail(call);
-        }
-        Ok(())
+        self.calls = self.calls.saturating_add(1);
+        is_among(self.failing.as_slice(), self.calls)
     }
 
     // Counts a fault.
@@ -107,27 +98,38 @@ impl Files for MemFiles {
         ensures distinct { IfSome (Some self.old.entries) HasDistinctPaths }
         ensures listed { IfOk result (λ texts. ListsTold (Some self.old.entries) dir.now texts) }
         ensures cause { HasCause result self.old.faults self.new.faults self.old.last self.new.last (FilesCall.Listing dir.now) }
+        ensures failing { self.new.failing ≡ self.old.failing }
+        ensures calls { self.new.calls ≡ counted self.old.calls }
         ensures only { IsErrOf result FilesFault.Failed → Contains self.old.failing (counted self.old.calls) }
         ensures surely { Contains self.old.failing (counted self.old.calls) → IsOk result → ⊥ }
     {
         let _entries = &self.entries;
-        let path = Text::from_str(alloc, dir)?;
-        self.begin(FilesCall::Listing(path))?;
+        let fails = self.begin();
+        let asked = Text::from_str(alloc, dir)?;
+        if fails {
+            return self.fail(FilesCall::Listing(asked));
+        }
         Ok(listed(alloc, self.entries.as_slice(), dir)?)
     }
 
     fn read(&mut self, alloc: Global, path: &str) -> Result<Vec<u8>, FilesFault>
         ensures told { Some self.new.entries ≡ Some self.old.entries }
+        ensures distinct { IfSome (Some self.old.entries) HasDistinctPaths }
         ensures bytes { IfOk result (λ bytes. ReadsTold (Some self.old.entries) path.now bytes.items) }
         ensures cause { HasCause result self.old.faults self.new.faults self.old.last self.new.last (FilesCall.Reading path.now) }
+        ensures failing { self.new.failing ≡ self.old.failing }
+        ensures calls { self.new.calls ≡ counted self.old.calls }
         ensures only { IsErrOf result FilesFault.Failed → Contains self.old.failing (counted self.old.calls) ⊎ (content path.now self.old.entries ≡ None) }
         ensures surely { Contains self.old.failing (counted self.old.calls) → IsOk result → ⊥ }
     {
+        let _entries = &self.entries;
+        let fails = self.begin();
         let asked = Text::from_str(alloc, path)?;
-        let again = Text::from_str(alloc, path)?;
-        self.begin(FilesCall::Reading(asked))?;
+        if fails {
+            return self.fail(FilesCall::Reading(asked));
+        }
         match found(self.entries.as_slice(), path) {
-            None => self.fail(FilesCall::Reading(again)),
+            None => self.fail(FilesCall::Reading(asked)),
             Some(bytes) => match Vec::from_slice(alloc, bytes.as_slice()) {
                 Ok(copy) => Ok(copy),
                 Err(_) => Err(FilesFault::Memory),
