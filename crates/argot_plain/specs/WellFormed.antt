@@ -201,7 +201,8 @@ pub record HasLimits (p : Code) : Type 0 where
   pub functions : length p.functions ≤ 65536
   pub instrs : length p.instrs ≤ 1048576
   pub leaves : (g r : ℕ) → length (leaves p g r) ≤ 4096
-  pub shapes : (n : ℕ) (site : Site) → slice_get p.sites n ≡ Some site → length site.shape ≤ 8192
+  -- a function value has a path for each variable that it captures, and of these there may be any number
+  pub shapes : (n : ℕ) (site : Site) → slice_get p.sites n ≡ Some site → site.function ≡ None → length site.shape ≤ 8192
 
 -- a Read or a Move
 pub data IsReadOrMove : Kind → Type 0 where
