@@ -39,13 +39,13 @@ mapped f x (y ∷ ys) (here e) = here (ap f e)
 mapped f x (y ∷ ys) (there m) = there (mapped f x ys m)
 mapped f x [] m = elim m [ ]
 
-abbrev callee_of : Kind → Option Callee
+abbrev pub callee_of : Kind → Option Callee
 callee_of (Call to callee args) = Some callee
 callee_of (Go callee args) = Some callee
 callee_of (Defer callee args) = Some callee
 callee_of _ = None
 
-abbrev args_of : Kind → List ℕ
+abbrev pub args_of : Kind → List ℕ
 args_of (Call to callee args) = args
 args_of (Go callee args) = args
 args_of (Defer callee args) = args
@@ -55,7 +55,7 @@ abbrev results_of : Kind → ℕ
 results_of (Call to callee args) = length to
 results_of _ = 0
 
-hands_are : (kind : Kind) (callee : Callee) (args : List ℕ) (n : ℕ) → Hands kind callee args n → (callee_of kind ≡ Some callee) × (args_of kind ≡ args) × (results_of kind ≡ n)
+pub hands_are : (kind : Kind) (callee : Callee) (args : List ℕ) (n : ℕ) → Hands kind callee args n → (callee_of kind ≡ Some callee) × (args_of kind ≡ args) × (results_of kind ≡ n)
 hands_are kind callee args n by_call = (refl, refl, refl)
 hands_are kind callee args n by_go = (refl, refl, refl)
 hands_are kind callee args n by_defer = (refl, refl, refl)
@@ -69,7 +69,7 @@ no_value = at_place (λ i kind. (r : ℕ) → callee_of kind ≡ Some (Value r) 
 no_method : (i : ℕ) (kind : Kind) → IsAt first_flow i kind → (r : ℕ) (name : List ℕ) → callee_of kind ≡ Some (Method r name) → ⊥
 no_method = at_place (λ i kind. (r : ℕ) (name : List ℕ) → callee_of kind ≡ Some (Method r name) → ⊥) (λ r name e. cc, (λ r name e. cc, (λ r name e. cc, (λ r name e. cc, (λ r name e. cc, (λ r name e. cc, (λ r name e. cc, (λ r name e. cc, (λ r name e. cc, (λ r name e. cc, (λ r name e. cc, (λ r name e. cc, (λ r name e. cc, (λ r name e. cc, (λ r name e. cc, (λ r name e. cc, (λ r name e. cc, (λ r name e. cc, (λ r name e. cc, (λ r name e. cc, tt))))))))))))))))))))
 
-no_grow : (i : ℕ) (kind : Kind) → IsAt first_flow i kind → (to at : ℕ) (items : List ℕ) → kind ≡ Grow to at items → ⊥
+pub no_grow : (i : ℕ) (kind : Kind) → IsAt first_flow i kind → (to at : ℕ) (items : List ℕ) → kind ≡ Grow to at items → ⊥
 no_grow = at_place (λ i kind. (to at : ℕ) (items : List ℕ) → kind ≡ Grow to at items → ⊥) (λ to at items e. cc, (λ to at items e. cc, (λ to at items e. cc, (λ to at items e. cc, (λ to at items e. cc, (λ to at items e. cc, (λ to at items e. cc, (λ to at items e. cc, (λ to at items e. cc, (λ to at items e. cc, (λ to at items e. cc, (λ to at items e. cc, (λ to at items e. cc, (λ to at items e. cc, (λ to at items e. cc, (λ to at items e. cc, (λ to at items e. cc, (λ to at items e. cc, (λ to at items e. cc, (λ to at items e. cc, tt))))))))))))))))))))
 
 no_write : (i : ℕ) (kind : Kind) → IsAt first_flow i kind → (at from : ℕ) → kind ≡ Write at from → ⊥
@@ -78,7 +78,7 @@ no_write = at_place (λ i kind. (at from : ℕ) → kind ≡ Write at from → �
 no_go : (i : ℕ) (kind : Kind) → IsAt first_flow i kind → (callee : Callee) (args : List ℕ) → kind ≡ Go callee args → ⊥
 no_go = at_place (λ i kind. (callee : Callee) (args : List ℕ) → kind ≡ Go callee args → ⊥) (λ callee args e. cc, (λ callee args e. cc, (λ callee args e. cc, (λ callee args e. cc, (λ callee args e. cc, (λ callee args e. cc, (λ callee args e. cc, (λ callee args e. cc, (λ callee args e. cc, (λ callee args e. cc, (λ callee args e. cc, (λ callee args e. cc, (λ callee args e. cc, (λ callee args e. cc, (λ callee args e. cc, (λ callee args e. cc, (λ callee args e. cc, (λ callee args e. cc, (λ callee args e. cc, (λ callee args e. cc, tt))))))))))))))))))))
 
-no_external : (g : ℕ) (fn : Function) → IsFunction first_flow g fn → (flows : Bool) → fn.external ≡ Some flows → ⊥
+pub no_external : (g : ℕ) (fn : Function) → IsFunction first_flow g fn → (flows : Bool) → fn.external ≡ Some flows → ⊥
 no_external = functions_are (λ g fn. (flows : Bool) → fn.external ≡ Some flows → ⊥) (λ b e. cc) (λ b e. cc) (λ b e. cc) (λ b e. cc)
 
 no_writes : (m : Mark) (s : ℕ) (path : List PathStep) → Writes first_flow m s path → ⊥

@@ -5,3 +5,4 @@ pub mod FilledBoxRun
 pub mod DeferredCallRun
 pub mod CalledMethodRun
 pub mod ReadFirstRun
+pub mod FirstWell

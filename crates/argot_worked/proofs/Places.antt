@@ -141,7 +141,7 @@ leaf_case qs (inl e) a q h = let x = subst (λ (z : List (List PathStep)). slice
 leaf_case qs (inr e) zero q h = let x = subst (λ (z : List (List PathStep)). slice_get z 0 ≡ Some q) e h in (refl, cc)
 leaf_case qs (inr e) (suc a) q h = let x = subst (λ (z : List (List PathStep)). slice_get z (suc a) ≡ Some q) e h in absurd cc
 
-leaves_are : (g r : ℕ) → (leaves first_flow g r ≡ []) ⊎ (leaves first_flow g r ≡ [] ∷ [])
+pub leaves_are : (g r : ℕ) → (leaves first_flow g r ≡ []) ⊎ (leaves first_flow g r ≡ [] ∷ [])
 leaves_are zero r = inl refl
 leaves_are (suc zero) zero = inr refl
 leaves_are (suc zero) (suc zero) = inr refl

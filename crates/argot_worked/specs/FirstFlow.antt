@@ -13,6 +13,7 @@ use Rattle.argot_plain.specs.Code.{Code}
 use Rattle.argot_plain.specs.Leak.{Leak, labelled}
 use Rattle.argot_plain.specs.Machine.{State}
 use Rattle.argot_plain.specs.Step.{Run}
+use Rattle.argot_plain.specs.WellFormed.{WellFormed}
 use Rattle.argot_plain.specs.declared.functions.Function.{Function}
 use Rattle.argot_plain.specs.declared.functions.Ident.{Ident}
 use Rattle.argot_plain.specs.declared.functions.Role.TheVariants.{Own}
@@ -94,3 +95,7 @@ ItHasSevenNodes = AreNodes first_flow its_nodes
 -- these are its edges, and no more
 abbrev pub ItHasSixEdges : Type 0
 ItHasSixEdges = (a : Node) (kind : EdgeKind) (b : Node) → IsEdge first_flow asked a kind b ↔ In (a, kind, b) its_edges
+
+-- the program is well formed
+abbrev pub ItIsWellFormed : Type 0
+ItIsWellFormed = WellFormed first_flow

@@ -2,7 +2,7 @@
 //! seen here before anything is built on it. Each law is the contract of a function that does nothing.
 #![tactic(auto)]
 
-ghost use Rattle.argot_worked.specs.FirstFlow.{ItLeaks, ItHasSevenNodes, ItHasSixEdges};
+ghost use Rattle.argot_worked.specs.FirstFlow.{ItLeaks, ItHasSevenNodes, ItHasSixEdges, ItIsWellFormed};
 ghost use Rattle.argot_worked.specs.FilledBox.{ItLeaks as FilledBoxLeaks};
 ghost use Rattle.argot_worked.specs.DeferredCall.{ItEnds as DeferredCallEnds};
 ghost use Rattle.argot_worked.specs.CalledMethod.{ItEnds as CalledMethodEnds};
@@ -37,4 +37,9 @@ pub fn called_method_ends()
 /// A box is read before secret data is written to it; the program ends.
 pub fn read_first_ends()
     ensures { ReadFirstEnds }
+{}
+
+/// It is well formed, so that all that is said of well-formed programs is said of it.
+pub fn first_flow_is_well_formed()
+    ensures { ItIsWellFormed }
 {}
