@@ -1,0 +1,5 @@
+pub mod Parts
+pub mod Fitting
+pub mod Leaves
+pub mod Counts
+pub mod Steps
