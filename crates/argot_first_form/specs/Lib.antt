@@ -1,0 +1,5 @@
+pub mod Bytes
+pub mod Tree
+pub mod Steps
+pub mod Front
+pub mod Reading

@@ -1,0 +1,17 @@
+//! Reads a program of the first form: straight-line code over strings in one file of at most 4,096 bytes.
+//! The grammar is `specs/Tree.antt`, where each production has one spelling; `read` meets it in both directions.
+//! The layer above uses the program's functions and main's steps.
+#![tactic(auto)]
+
+mod bytes;
+mod fault;
+mod functions;
+mod headers;
+mod lines;
+mod reader;
+mod statements;
+mod steps;
+mod values;
+
+pub use functions::{Function, Returned};
+pub use steps::{Action, Name, Operand, Step};
