@@ -4,3 +4,4 @@ pub mod Words
 pub mod Steps
 pub mod Front
 pub mod Reading
+pub mod Form
