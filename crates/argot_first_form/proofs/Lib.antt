@@ -1,5 +1,7 @@
 pub mod Turns
 pub mod Pieces
 pub mod Exact
-pub mod Whole
+pub mod Files
 pub mod Sound
+pub mod Checking
+pub mod Programs

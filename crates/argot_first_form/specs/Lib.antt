@@ -5,3 +5,5 @@ pub mod Steps
 pub mod Front
 pub mod Reading
 pub mod Form
+pub mod Checks
+pub mod Whole

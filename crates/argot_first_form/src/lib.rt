@@ -3,15 +3,21 @@
 //! The layer above uses the program's functions and main's steps.
 #![tactic(auto)]
 
+mod brackets;
 mod bytes;
+mod conditions;
 mod fault;
 mod functions;
 mod headers;
 mod lines;
 mod reader;
+mod scopes;
 mod statements;
 mod steps;
 mod values;
+mod whole;
 
+pub use lines::Program;
+pub use whole::read;
 pub use functions::{Function, Returned};
 pub use steps::{Action, Name, Operand, Step};

@@ -57,7 +57,7 @@ pub struct Program {
 }
 
 #[tactic(auto, unfolding(crate::specs::Reading::read))]
-fn read_all(alloc: Global, text: &[u8]) -> Result<Program, Fault>
+pub fn read_all(alloc: Global, text: &[u8]) -> Result<Program, Fault>
     ensures { IsRead result (read text.now) }
 {
     let mut reader = open(alloc, text);
