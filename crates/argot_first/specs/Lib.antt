@@ -1,3 +1,4 @@
 pub mod Code
+pub mod Marks
 pub mod Flows
 pub mod Answer

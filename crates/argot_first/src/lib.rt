@@ -6,6 +6,8 @@
 mod analyse;
 mod found;
 mod kinds;
+mod lowering;
+mod marks;
 
 pub use analyse::analyse_first;
 pub use found::{Answer, Flow};

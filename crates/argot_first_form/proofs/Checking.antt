@@ -65,15 +65,16 @@ module _ (functions : List Function) where
 
   pub fit : (steps : List Step) → IsTrue (steps_fit functions [] steps) ↔ StepsFit functions steps
   unfolding steps_fit
-  fit steps =
-      (λ h. let all = both-right (declares_new functions) four [] steps h in
-            let more = both-right assigns_old three [] steps all in
-            let last = both-right calls two [] steps more in
-            record {
-              declares = both-left (declares_new functions) four [] steps h;
-              assigns = both-left assigns_old three [] steps all;
-              calls = both-left calls two [] steps more;
-              reads = both-left reads uses [] steps last;
-              results = both-right reads uses [] steps last
-            },
-       λ f. both (declares_new functions) four [] steps f.declares (both assigns_old three [] steps f.assigns (both calls two [] steps f.calls (both reads uses [] steps f.reads f.results))))
+  fit steps = (
+    λ h. let all = both-right (declares_new functions) four [] steps h in
+        let more = both-right assigns_old three [] steps all in
+        let last = both-right calls two [] steps more in
+        record {
+          declares = both-left (declares_new functions) four [] steps h;
+          assigns = both-left assigns_old three [] steps all;
+          calls = both-left calls two [] steps more;
+          reads = both-left reads uses [] steps last;
+          results = both-right reads uses [] steps last;
+        },
+    λ f. both (declares_new functions) four [] steps f.declares (both assigns_old three [] steps f.assigns (both calls two [] steps f.calls (both reads uses [] steps f.reads f.results))),
+  )

@@ -109,6 +109,7 @@ joined v w ws n total read r steps p =
 
 mutual
   unfolding value
+
   pub value-exact : (v : Value) → HasWords v → Exact v
   value-exact (Variable m) h zero total r steps fits s = absurd (omega arith)
   value-exact (Variable m) h (suc n) total r steps fits s = variable-exact m n total r steps h s

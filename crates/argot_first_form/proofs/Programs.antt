@@ -58,8 +58,8 @@ found bytes p e short brackets functions steps =
         functions = subst FunctionsFit f functions;
         steps = subst (λ fs. StepsFit fs (steps_of file)) f (subst (λ ss. StepsFit p.functions ss) t steps);
         short = short;
-        brackets = brackets
+        brackets = brackets;
       };
       functions = f;
-      steps = t
+      steps = t;
     }

@@ -103,6 +103,7 @@ goes_on n given r = if begins (codes ", ") r.1 then arguments n (given ++ r.0 �
 
 mutual
   unfolding value
+
   pub value-sound : (n : ℕ) (f g : Front) (o : Operand) → value n f ≡ Some (o, g) → ValueBetween f g
   value-sound zero f g o h = absurd (cc h)
   value-sound (suc n) f g o h = value-between n (arguments-sound n) f g o h
@@ -257,7 +258,7 @@ function-sound f g o h =
     let m = name-sound a.0 b.0.1 b.0.0 b.1 in
     let ps = all_parameters-sound c.0 d.0.1 d.0.0 d.1 in
     let s : f.rest ≡ codes "func " ++ (b.0.0 ++ (40 ∷ parameters_text ps.0 d.0.1.rest)) =
-        past-sound (codes "func ") f a.0 a.1 ∙ ap (λ x. codes "func " ++ x) (m.1 ∙ ap (λ x. b.0.0 ++ x) (past-sound (40 ∷ []) b.0.1 c.0 c.1 ∙ ap (λ x. 40 ∷ x) ps.2)) in
+    past-sound (codes "func ") f a.0 a.1 ∙ ap (λ x. codes "func " ++ x) (m.1 ∙ ap (λ x. b.0.0 ++ x) (past-sound (40 ∷ []) b.0.1 c.0 c.1 ∙ ap (λ x. 40 ∷ x) ps.2)) in
     item-by f d.0.1 g b.0.0 ps.0 e.0.1 m.0 ps.1 s (returned-sound d.0.1 e.0.1 e.0.0 e.1) (past-sound (10 ∷ []) e.0.1 l.0 l.1 ∙ ap (λ x. 10 ∷ x.1.rest) (some-same l.2))
 
 -- the lines before main, and main's first

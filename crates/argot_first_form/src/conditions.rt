@@ -51,7 +51,9 @@ fn functions_differ(functions: &[Function]) -> bool
 fn are_apart(functions: &[Function], names: &[Name]) -> bool
     ensures { result ≡ list_all (λ p. not (among (names_of functions.now) p)) names.now }
 {
-    names.iter().all(|name| !has_name(functions, name.as_slice()))
+    names
+        .iter()
+        .all(|name| !has_name(functions, name.as_slice()))
 }
 
 fn returns_own(parameters: &[Name], returned: &Returned) -> bool
@@ -75,17 +77,13 @@ fn all_parameters_differ(functions: &[Function]) -> bool
 fn all_parameters_apart(functions: &[Function]) -> bool
     ensures { result ≡ list_all (λ f. list_all (λ p. not (among (names_of functions.now) p)) f.parameters) functions.now }
 {
-    functions
-        .iter()
-        .all(|function| are_apart(functions, function.parameters.as_slice()))
+    functions.iter().all(|function| are_apart(functions, function.parameters.as_slice()))
 }
 
 fn all_return_own(functions: &[Function]) -> bool
     ensures { result ≡ list_all (λ f. returns_own f.parameters f.returned) functions.now }
 {
-    functions
-        .iter()
-        .all(|function| returns_own(function.parameters.as_slice(), &function.returned))
+    functions.iter().all(|function| returns_own(function.parameters.as_slice(), &function.returned))
 }
 
 /// Whether the names of the functions meet the conditions.

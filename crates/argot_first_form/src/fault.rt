@@ -2,6 +2,7 @@
 
 ghost use Rattle.std.specs.Prelude.{◌≡◌};
 ghost use Rattle.argot_first_form.specs.declared.fault.Fault.TheVariants.{Memory};
+
 use std::alloc::{AllocError, AllocFailed};
 
 /// Why reading stopped.

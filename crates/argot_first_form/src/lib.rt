@@ -17,7 +17,8 @@ mod steps;
 mod values;
 mod whole;
 
-pub use lines::Program;
-pub use whole::read;
 pub use functions::{Function, Returned};
+pub use lines::Program;
+pub use scopes::{declares, has_result};
 pub use steps::{Action, Name, Operand, Step};
+pub use whole::read;

@@ -135,7 +135,11 @@ impl Reader<'_> {
     pub fn into_steps(self) -> Vec<Step>
         ensures { result.items ≡ self.entry.steps }
     {
-        let Reader { total: _, rest: _, steps } = self;
+        let Reader {
+            total: _,
+            rest: _,
+            steps,
+        } = self;
         steps
     }
 }

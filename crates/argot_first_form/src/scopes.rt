@@ -10,7 +10,8 @@ use crate::conditions::has_name;
 use crate::functions::{Function, Returned};
 use crate::steps::{Action, Operand, Step};
 
-fn declares(action: &Action, name: &[u8]) -> bool
+/// Whether the step declares a variable of this name.
+pub fn declares(action: &Action, name: &[u8]) -> bool
     ensures { result ≡ among (declared_by action.now) name.now }
 {
     match action {
@@ -51,8 +52,7 @@ fn declares_new(functions: &[Function], before: &[Step], action: &Action) -> boo
 {
     match action {
         Action::Define { variable, .. } => {
-            !is_declared(before, variable.as_slice())
-                && !has_name(functions, variable.as_slice())
+            !is_declared(before, variable.as_slice()) && !has_name(functions, variable.as_slice())
         }
         Action::Text => true,
         Action::Call { .. } => true,

@@ -23,11 +23,23 @@ fn statement_behind(
     let depth = reader.total();
     if reader.skips(b" := ") {
         let value = value(reader, alloc, depth)?;
-        return reader.push(at, Action::Define { variable: name, value });
+        return reader.push(
+            at,
+            Action::Define {
+                variable: name,
+                value,
+            },
+        );
     }
     if reader.skips(b" = ") {
         let value = value(reader, alloc, depth)?;
-        return reader.push(at, Action::Assign { variable: name, value });
+        return reader.push(
+            at,
+            Action::Assign {
+                variable: name,
+                value,
+            },
+        );
     }
     call(reader, alloc, depth, at, name)?;
     Ok(())

@@ -25,9 +25,15 @@ pub enum Action {
         arguments: Items<Operand>,
     },
     /// Declares a variable with a value.
-    Define { variable: Name, value: Operand },
+    Define {
+        variable: Name,
+        value: Operand,
+    },
     /// Gives a variable another value.
-    Assign { variable: Name, value: Operand },
+    Assign {
+        variable: Name,
+        value: Operand,
+    },
 }
 
 /// A step of main, with the offset of its first byte in the file.

@@ -46,17 +46,19 @@ pub fn call(
     reader.takes(b"(")?;
     let arguments = arguments(reader, alloc, depth)?;
     let operand = reader.next_step();
-    reader.push(at, Action::Call { function, arguments })?;
+    reader.push(
+        at,
+        Action::Call {
+            function,
+            arguments,
+        },
+    )?;
     Ok(operand)
 }
 
 /// The arguments behind an opening bracket, and the closing one.
 #[cycle(values)]
-fn arguments(
-    reader: &mut Reader<'_>,
-    alloc: Global,
-    depth: usize,
-) -> Result<Items<Operand>, Fault>
+fn arguments(reader: &mut Reader<'_>, alloc: Global, depth: usize) -> Result<Items<Operand>, Fault>
     ensures { Gives (λ vs. vs) result reader.new (arguments_by (arguments depth []) reader.old) }
 {
     if reader.skips(b")") {

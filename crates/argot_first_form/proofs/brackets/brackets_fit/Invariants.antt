@@ -9,5 +9,5 @@ invariant-loop-byte l = record {
   closed_is : l.closed ≡ count_by is_closing (take l.byte-index l.bytes);
   opened_within : l.opened ≤ l.byte-index;
   closed_within : l.closed ≤ l.byte-index;
-  fits : (n : ℕ) → n ≤ l.byte-index → count_by is_opening (take n l.bytes) ≤ count_by is_closing (take n l.bytes) + 100
+  fits : (n : ℕ) → n ≤ l.byte-index → count_by is_opening (take n l.bytes) ≤ count_by is_closing (take n l.bytes) + 100;
 }
