@@ -1,1 +1,4 @@
 pub mod Turns
+pub mod Lookup
+pub mod Blocks
+pub mod Shape

@@ -12,3 +12,4 @@ mod marks;
 pub use analyse::analyse_first;
 pub use found::{Answer, Flow};
 pub use kinds::Kind;
+
