@@ -5,3 +5,4 @@ pub mod Shape
 pub mod Before
 pub mod Forward
 pub mod Spread
+pub mod Backward

@@ -67,7 +67,7 @@ gives-target functions kinds j k r (Leave from) h g = absurd h
 gives-target functions kinds j k r (Goto t) h g = absurd h
 gives-target functions kinds j k r (Branch ts) h g = absurd h
 
-target-gives : (kind : Kind) (r : ℕ) → target kind ≡ Some r → Gives (Some kind) 0 r
+pub target-gives : (kind : Kind) (r : ℕ) → target kind ≡ Some r → Gives (Some kind) 0 r
 target-gives (Op to from) r h = (refl, sym (some-same h))
 target-gives (Move to from) r h = (refl, sym (some-same h))
 target-gives (Call to g args) r h = h
@@ -80,7 +80,7 @@ one-within : (to : List ℕ) (j x : ℕ) → (to ≡ []) ⊎ (to ≡ j ∷ []) �
 one-within to j x (inl e) h = absurd (cc (subst (λ y. slice_get y 0 ≡ Some x) e h))
 one-within to j x (inr e) h = let q : slice_get (j ∷ []) 0 ≡ Some x = subst (λ y. slice_get y 0 ≡ Some x) e h in sym (some-same q)
 
-target-within : (functions : List Function) (kinds : List Kind) (j x : ℕ) (kind : Kind) → j < length kinds → StepShape functions kinds j kind → target kind ≡ Some x → x < length kinds
+pub target-within : (functions : List Function) (kinds : List Kind) (j x : ℕ) (kind : Kind) → j < length kinds → StepShape functions kinds j kind → target kind ≡ Some x → x < length kinds
 target-within functions kinds j x (Op to from) w h t = let q : to ≡ x = some-same t in omega (arith, h.0)
 target-within functions kinds j x (Move to from) w h t = let q : to ≡ x = some-same t in omega arith
 target-within functions kinds j x (Call to g args) w h t = omega (arith, one-within to j x h.5 t)
@@ -107,11 +107,11 @@ module _ (code : Code) (functions : List Function) (kinds : List Kind) (base : �
   abbrev has : ℕ → Kind → Bool
   has i kind = value functions s kinds i kind
 
-  step-steps : (j : ℕ) (kind : Kind) → slice_get kinds j ≡ Some kind → Steps kind
+  pub step-steps : (j : ℕ) (kind : Kind) → slice_get kinds j ≡ Some kind → Steps kind
   step-steps j kind h = shape-steps functions kinds j kind (sh.step_shape j kind h)
 
   -- no function begins or ends at a step of main
-  step-no-entry : (j k r : ℕ) (kind : Kind) → slice_get kinds j ≡ Some kind → IsParameter code (base + j) k r → ⊥
+  pub step-no-entry : (j k r : ℕ) (kind : Kind) → slice_get kinds j ≡ Some kind → IsParameter code (base + j) k r → ⊥
   step-no-entry j k r kind h p =
       let e = sh.entries p.number p.function p.is_function in
       no-goto kind e.0 (step-steps j kind h) (same-kind code (base + j) kind (Goto e.0) (sh.step_at j kind h) (subst (λ x. IsAt code x (Goto e.0)) p.entry e.1))
@@ -121,7 +121,7 @@ module _ (code : Code) (functions : List Function) (kinds : List Kind) (base : �
       let l = sh.leaves g pl f in
       no-leave kind l.0 (step-steps j kind h) (same-kind code (base + j) kind (Leave l.0) (sh.step_at j kind h) (subst (λ x. IsAt code x (Leave l.0)) (sym e) l.1))
 
-  defines-by : (j k r : ℕ) (kind : Kind) → slice_get kinds j ≡ Some kind → Defines code (base + j) k r → (k ≡ 0) × (target kind ≡ Some r)
+  pub defines-by : (j k r : ℕ) (kind : Kind) → slice_get kinds j ≡ Some kind → Defines code (base + j) k r → (k ≡ 0) × (target kind ≡ Some r)
   defines-by j k r kind h (inl g) = gives-target functions kinds j k r kind (sh.step_shape j kind h) (subst (λ x. Gives x k r) (sh.step_at j kind h) g)
   defines-by j k r kind h (inr p) = absurd (step-no-entry j k r kind h p)
 
@@ -315,11 +315,11 @@ module _ (code : Code) (functions : List Function) (kinds : List Kind) (base : �
   block-first ps returns.Text e = refl
   block-first ps (returns.Parameter n) e = refl
 
-  entry-kind : (fn : Function) (pl : Plain) → IsBlock code fn pl → IsAt code pl.entry (Goto (pl.entry + 1))
+  pub entry-kind : (fn : Function) (pl : Plain) → IsBlock code fn pl → IsAt code pl.entry (Goto (pl.entry + 1))
   entry-kind fn pl b = ap (kind_at code) (sym (add-zero pl.entry)) ∙ b.kinds 0 (Goto (pl.entry + 1)) (block-first fn.parameters fn.returned pl.entry)
 
   -- the kinds of a block that gives a parameter back
-  given-kind : (fn : Function) (pl : Plain) → IsBlock code fn pl → (n : List ℕ) → fn.returned ≡ returns.Parameter n → (i : ℕ) (kind : Kind) → slice_get (block_of fn.parameters (returns.Parameter n) pl.entry) i ≡ Some kind → IsAt code (pl.entry + i) kind
+  pub given-kind : (fn : Function) (pl : Plain) → IsBlock code fn pl → (n : List ℕ) → fn.returned ≡ returns.Parameter n → (i : ℕ) (kind : Kind) → slice_get (block_of fn.parameters (returns.Parameter n) pl.entry) i ≡ Some kind → IsAt code (pl.entry + i) kind
   given-kind fn pl b n e i kind h = b.kinds i kind (ap (λ y. slice_get (block_of fn.parameters y pl.entry) i) e ∙ h)
 
   parameter-same : (fn : Function) (pl : Plain) → IsBlock code fn pl → (l r : ℕ) → Defines code pl.entry l r → r ≡ l
@@ -376,7 +376,7 @@ module _ (code : Code) (functions : List Function) (kinds : List Kind) (base : �
   step-is j kind b to g args h e a = same-kind code (base + j) kind (Call to g args) (sh.step_at j kind h) (subst (λ y. IsAt code y (Call to g args)) e a)
 
   -- a function is known by its number
-  one-function : (g : ℕ) (a b : Plain) → IsFunction code g a → IsFunction code g b → a ≡ b
+  pub one-function : (g : ℕ) (a b : Plain) → IsFunction code g a → IsFunction code g b → a ≡ b
   one-function g a b h k = some-same (sym h ∙ k)
 
   entered-argument : (i k : ℕ) (e : Entered i k) (to : List ℕ) (g : ℕ) (args : List ℕ) → IsAt code i (Call to g args) → Call e.to e.number e.args ≡ Call to g args
