@@ -92,15 +92,23 @@ module _ (code : Code) (functions : List Function) (kinds : List Kind) (base : �
       let e : base + i + 1 ≡ base + suc i = omega arith in
       subst (λ y. GoesOn y (base + i) (base + suc i)) (sym (sh.step_at i kind h)) (subst (λ y. GoesOn (Some kind) (base + i) y) e (next-goes kind (base + i) (step-steps code functions kinds base sh s i kind h)))
 
+  -- the source's step gives a result
+  pub record HasTarget : Type 0 where
+    pub kind : Kind
+    pub register : ℕ
+    pub is_step : slice_get kinds s ≡ Some kind
+    pub is_target : target kind ≡ Some register
+
   -- a register that holds the data before the step i
   pub record Held (i r : ℕ) : Type 0 where
     pub step : ℕ
     pub earlier : step < i
     pub reaches : Reaches code (base + step) 0 r (base + i)
     pub joins : FromSource (base + step) 0 []
+    pub gives : HasTarget
 
   -- the data goes on to what takes the register
-  taken : (i l r : ℕ) (kind : Kind) → slice_get kinds i ≡ Some kind → Held i r → Takes (Some kind) l r → FromSource (base + i) l []
+  pub taken : (i l r : ℕ) (kind : Kind) → slice_get kinds i ≡ Some kind → Held i r → Takes (Some kind) l r → FromSource (base + i) l []
   taken i l r kind h p t =
       let w : i < length kinds = slice_get_within kinds i kind h in
       plain p.joins (within r (sh.main_live i (omega arith)) (subst (λ y. Takes y l r) (sym (sh.step_at i kind h)) t) p.reaches)
@@ -202,6 +210,19 @@ module _ (code : Code) (functions : List Function) (kinds : List Kind) (base : �
   result-by i r (Goto p) h t rec c = absurd (false≢true c)
   result-by i r (Branch ts) h t rec c = absurd (false≢true c)
 
+  gives-by : (i r : ℕ) (kind : Kind) → ((q : ℕ) → marked (marks i) q ≡ true → Held i q) → carries functions (marks i) kind ≡ true → HasTarget
+  gives-by i r (Op to from) rec c = absurd (false≢true c)
+  gives-by i r (Move to from) rec c = (rec from c).gives
+  gives-by i r (Call to g args) rec c = let p = passing-by functions (marks i) g args (passes functions g) refl c in (rec p.register p.is_marked).gives
+  gives-by i r RunDefers rec c = absurd (false≢true c)
+  gives-by i r (Leave from) rec c = absurd (false≢true c)
+  gives-by i r (Goto p) rec c = absurd (false≢true c)
+  gives-by i r (Branch ts) rec c = absurd (false≢true c)
+
+  gives-cases : (i r : ℕ) (kind : Kind) → slice_get kinds i ≡ Some kind → target kind ≡ Some r → ((q : ℕ) → marked (marks i) q ≡ true → Held i q) → (nat_eq i s ≡ true) ⊎ (carries functions (marks i) kind ≡ true) → HasTarget
+  gives-cases i r kind h t rec (inl e) = record { kind = kind; register = r; is_step = subst (λ y. slice_get kinds y ≡ Some kind) (eqb-true i s e) h; is_target = t }
+  gives-cases i r kind h t rec (inr c) = gives-by i r kind rec c
+
   result-cases : (i r : ℕ) (kind : Kind) → slice_get kinds i ≡ Some kind → target kind ≡ Some r → ((q : ℕ) → marked (marks i) q ≡ true → Held i q) → (nat_eq i s ≡ true) ⊎ (carries functions (marks i) kind ≡ true) → FromSource (base + i) 0 []
   result-cases i r kind h t rec (inl e) = subst (λ y. FromSource (base + y) 0 []) (sym (eqb-true i s e)) stay
   result-cases i r kind h t rec (inr c) = result-by i r kind h t rec c
@@ -214,16 +235,18 @@ module _ (code : Code) (functions : List Function) (kinds : List Kind) (base : �
         step = p.step;
         earlier = omega arith;
         reaches = onward p.reaches (λ l d. n (defines-by code functions kinds base sh s i l r kind h d).1) (step-goes i kind h);
-        joins = p.joins
+        joins = p.joins;
+        gives = p.gives
       }
 
-  held-new : (i r : ℕ) (kind : Kind) → slice_get kinds i ≡ Some kind → target kind ≡ Some r → FromSource (base + i) 0 [] → Held (suc i) r
-  held-new i r kind h t j =
+  held-new : (i r : ℕ) (kind : Kind) → slice_get kinds i ≡ Some kind → target kind ≡ Some r → FromSource (base + i) 0 [] → HasTarget → Held (suc i) r
+  held-new i r kind h t j g =
       record {
         step = i;
         earlier = omega arith;
         reaches = next (inl (subst (λ y. Gives y 0 r) (sym (sh.step_at i kind h)) (target-gives kind r t))) (step-goes i kind h);
-        joins = j
+        joins = j;
+        gives = g
       }
 
   some-differ : (o : Option ℕ) (q r : ℕ) → o ≡ Some q → q ≢ r → o ≡ Some r → ⊥
@@ -235,7 +258,7 @@ module _ (code : Code) (functions : List Function) (kinds : List Kind) (base : �
       let fits : q < length (marks i) = omega (arith, length-before functions s kinds i, target-within functions kinds i q kind w (sh.step_shape i kind h) t) in
       let v : has i kind ≡ true = sym (marked-same (marks i) q (has i kind) fits) ∙ (ap (marked (slice_set (marks i) q (has i kind))) e ∙ m) in
       let t2 : target kind ≡ Some r = t ∙ ap (λ y. Some y) e in
-      held-new i r kind h t2 (result-cases i r kind h t2 rec (or-cases (nat_eq i s) _ v))
+      held-new i r kind h t2 (result-cases i r kind h t2 rec (or-cases (nat_eq i s) _ v)) (gives-cases i r kind h t2 rec (or-cases (nat_eq i s) _ v))
   held-at i r kind q h t rec m (inr n) = held-on i r kind h (some-differ (target kind) q r t n) (rec r (sym (marked-other (marks i) q r (has i kind) n) ∙ m))
 
   held-by : (i r : ℕ) (kind : Kind) (o : Option ℕ) → slice_get kinds i ≡ Some kind → target kind ≡ o → ((x : ℕ) → marked (marks i) x ≡ true → Held i x) → marked (set_at (marks i) o (has i kind)) r ≡ true → Held (suc i) r

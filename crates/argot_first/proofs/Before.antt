@@ -25,7 +25,7 @@ length-set_at m (Some r) v = length-set m r v
 
 module _ (functions : List Function) (s : ℕ) where
   -- the marks before the step i, where these kinds begin at the step n with these marks
-  pub upto : ℕ → List Bool → List Kind → ℕ → List Bool
+  unfoldable pub upto : ℕ → List Bool → List Kind → ℕ → List Bool
   upto n m kinds zero = m
   upto n m [] (suc i) = m
   upto n m (k ∷ ks) (suc i) = upto (n + 1) (marks_after functions s n m k) ks i

@@ -6,3 +6,4 @@ pub mod Before
 pub mod Forward
 pub mod Spread
 pub mod Backward
+pub mod Listed
