@@ -7,3 +7,4 @@ pub mod Forward
 pub mod Spread
 pub mod Backward
 pub mod Listed
+pub mod Exactly

@@ -147,3 +147,80 @@ from-complete functions base s n m (x ∷ xs) zero kind k r h c a e =
 from-complete functions base s n m (x ∷ xs) (suc i) kind k r h c a e =
     let w : n + suc i ≡ n + 1 + i = omega arith in
     rw w (has-right (step_flows functions (base + s) (base + n) m x) _ (flow (base + s) (base + (n + 1 + i)) k) (from-complete functions base s (n + 1) (marks_after functions s n m x) xs i kind k r h c a e))
+
+sink-before : (s a b k l : ℕ) (f g : Flow) → f ≡ flow s a k → g ≡ flow s b l → a < b → IsBefore f g
+sink-before s a b k l f g e h w =
+    by_sink (ap (λ y. y.source) e ∙ sym (ap (λ y. y.source) h)) (omega (arith, ap (λ z. z.sink) e, ap (λ z. z.sink) h))
+
+source-before : (a b t u k l : ℕ) (f g : Flow) → f ≡ flow a t k → g ≡ flow b u l → a < b → IsBefore f g
+source-before a b t u k l f g e h w = by_source (omega (arith, ap (λ z. z.source) e, ap (λ z. z.source) h))
+
+step-chain : (b : Bool) (m : List Bool) (rs : List ℕ) (source sink : ℕ) → Chain (if b then argument_flows source sink m 0 rs else [])
+step-chain true m rs source sink = arguments-chain m 0 rs source sink
+step-chain false m rs source sink = tt
+
+pub from-chain : (functions : List Function) (base s n : ℕ) (m : List Bool) (kinds : List Kind) → Chain (flows_from functions base s n m kinds)
+unfolding flows_from
+from-chain functions base s n m [] = tt
+from-chain functions base s n m (k ∷ ks) =
+    chain-append (step_flows functions (base + s) (base + n) m k) (flows_from functions base s (n + 1) (marks_after functions s n m k) ks) (step-chain (calls_named named_sink functions k) m (arguments_of k) (base + s) (base + n)) (from-chain functions base s (n + 1) (marks_after functions s n m k) ks)
+    (λ x y p q.
+        let a = (step-by functions (base + s) (base + n) m k _ x refl p).1 in
+        let b = from-sound functions base s (n + 1) (marks_after functions s n m k) ks y q in
+        sink-before (base + s) (base + n) (base + (n + 1 + b.step)) (0 + a.index) b.index x y a.is_flow b.is_flow (omega arith))
+
+-- the sources whose data arrives
+pub record Sourced (functions : List Function) (base s : ℕ) (all kinds : List Kind) (f : Flow) : Type 0 where
+  pub step : ℕ
+  pub kind : Kind
+  pub is_step : slice_get kinds step ≡ Some kind
+  pub is_source : calls_named named_source functions kind ≡ true
+  pub sunk : Sunk functions base (s + step) 0 (no_marks all) all f
+
+source-by : (functions : List Function) (base s : ℕ) (all : List Kind) (k : Kind) (b : Bool) (f : Flow) → calls_named named_source functions k ≡ b → Has (if b then flows_from functions base s 0 (no_marks all) all else []) f → (calls_named named_source functions k ≡ true) × Sunk functions base s 0 (no_marks all) all f
+source-by functions base s all k true f e h = (e, from-sound functions base s 0 (no_marks all) all f h)
+source-by functions base s all k false f e h = absurd (cc h.1)
+
+next-sourced : (functions : List Function) (base s : ℕ) (all : List Kind) (k : Kind) (ks : List Kind) (f : Flow) → Sourced functions base (s + 1) all ks f → Sourced functions base s all (k ∷ ks) f
+next-sourced functions base s all k ks f a =
+    let e : s + 1 + a.step ≡ s + suc a.step = omega arith in
+    record { step = suc a.step; kind = a.kind; is_step = a.is_step; is_source = a.is_source; sunk = subst (λ y. Sunk functions base y 0 (no_marks all) all f) e a.sunk }
+
+first-sourced : (functions : List Function) (base s : ℕ) (all : List Kind) (k : Kind) (ks : List Kind) (f : Flow) → Has (source_flows functions base s k all) f → Sourced functions base s all (k ∷ ks) f
+first-sourced functions base s all k ks f h =
+    let q = source-by functions base s all k _ f refl h in
+    record { step = 0; kind = k; is_step = refl; is_source = q.0; sunk = subst (λ y. Sunk functions base y 0 (no_marks all) all f) (sym (add-zero s)) q.1 }
+
+sourced-by : (functions : List Function) (base s : ℕ) (all : List Kind) (k : Kind) (ks : List Kind) (f : Flow) → ((g : Flow) → Has (all_flows functions base all (s + 1) ks) g → Sourced functions base (s + 1) all ks g) → Has (source_flows functions base s k all) f ⊎ Has (all_flows functions base all (s + 1) ks) f → Sourced functions base s all (k ∷ ks) f
+sourced-by functions base s all k ks f rec (inl h) = first-sourced functions base s all k ks f h
+sourced-by functions base s all k ks f rec (inr h) = next-sourced functions base s all k ks f (rec f h)
+
+pub all-sound : (functions : List Function) (base s : ℕ) (all kinds : List Kind) (f : Flow) → Has (all_flows functions base all s kinds) f → Sourced functions base s all kinds f
+unfolding all_flows
+all-sound functions base s all [] f h = absurd (cc h.1)
+all-sound functions base s all (k ∷ ks) f h =
+    sourced-by functions base s all k ks f (λ g q. all-sound functions base (s + 1) all ks g q) (has-either (source_flows functions base s k all) (all_flows functions base all (s + 1) ks) f h)
+
+pub all-complete : (functions : List Function) (base s : ℕ) (all kinds : List Kind) (d : ℕ) (kind : Kind) (f : Flow) → slice_get kinds d ≡ Some kind → calls_named named_source functions kind ≡ true → Has (flows_from functions base (s + d) 0 (no_marks all) all) f → Has (all_flows functions base all s kinds) f
+unfolding all_flows
+all-complete functions base s all [] d kind f h c p = absurd (cc h)
+all-complete functions base s all (k ∷ ks) zero kind f h c p =
+    let q : Has (flows_from functions base s 0 (no_marks all) all) f = subst (λ y. Has (flows_from functions base y 0 (no_marks all) all) f) (add-zero s) p in
+    has-left (source_flows functions base s k all) (all_flows functions base all (s + 1) ks) f (rw (ap (calls_named named_source functions) (some-same h) ∙ c) q)
+all-complete functions base s all (k ∷ ks) (suc d) kind f h c p =
+    let e : s + suc d ≡ s + 1 + d = omega arith in
+    has-right (source_flows functions base s k all) (all_flows functions base all (s + 1) ks) f (all-complete functions base (s + 1) all ks d kind f h c (subst (λ y. Has (flows_from functions base y 0 (no_marks all) all) f) e p))
+
+source-chain : (functions : List Function) (base s : ℕ) (all : List Kind) (b : Bool) → Chain (if b then flows_from functions base s 0 (no_marks all) all else [])
+source-chain functions base s all true = from-chain functions base s 0 (no_marks all) all
+source-chain functions base s all false = tt
+
+pub all-chain : (functions : List Function) (base s : ℕ) (all kinds : List Kind) → Chain (all_flows functions base all s kinds)
+unfolding all_flows
+all-chain functions base s all [] = tt
+all-chain functions base s all (k ∷ ks) =
+    chain-append (source_flows functions base s k all) (all_flows functions base all (s + 1) ks) (source-chain functions base s all (calls_named named_source functions k)) (all-chain functions base (s + 1) all ks)
+    (λ x y p q.
+        let a = (source-by functions base s all k _ x refl p).1 in
+        let b = all-sound functions base (s + 1) all ks y q in
+        source-before (base + s) (base + (s + 1 + b.step)) (base + (0 + a.step)) (base + (0 + b.sunk.step)) a.index b.sunk.index x y a.is_flow b.sunk.is_flow (omega arith))

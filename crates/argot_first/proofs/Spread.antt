@@ -372,14 +372,14 @@ module _ (code : Code) (functions : List Function) (kinds : List Kind) (base : �
       absurd (left-none e.fn e.pl e.block n en l r (subst (λ y. Defines code y l r) ei (reaches-defines code b l r c reach)))
 
   -- the kind of the step at a place
-  step-is : (j : ℕ) (kind : Kind) (b : ℕ) (to : List ℕ) (g : ℕ) (args : List ℕ) → slice_get kinds j ≡ Some kind → b ≡ base + j → IsAt code b (Call to g args) → kind ≡ Call to g args
+  pub step-is : (j : ℕ) (kind : Kind) (b : ℕ) (to : List ℕ) (g : ℕ) (args : List ℕ) → slice_get kinds j ≡ Some kind → b ≡ base + j → IsAt code b (Call to g args) → kind ≡ Call to g args
   step-is j kind b to g args h e a = same-kind code (base + j) kind (Call to g args) (sh.step_at j kind h) (subst (λ y. IsAt code y (Call to g args)) e a)
 
   -- a function is known by its number
   pub one-function : (g : ℕ) (a b : Plain) → IsFunction code g a → IsFunction code g b → a ≡ b
   one-function g a b h k = some-same (sym h ∙ k)
 
-  entered-argument : (i k : ℕ) (e : Entered i k) (to : List ℕ) (g : ℕ) (args : List ℕ) → IsAt code i (Call to g args) → Call e.to e.number e.args ≡ Call to g args
+  pub entered-argument : (i k : ℕ) (e : Entered i k) (to : List ℕ) (g : ℕ) (args : List ℕ) → IsAt code i (Call to g args) → Call e.to e.number e.args ≡ Call to g args
   entered-argument i k e to g args a = step-is e.step (Call e.to e.number e.args) i to g args e.is_step e.is_place a
 
   entered-by : (i l m k : ℕ) (e : Entered i k) (to : List ℕ) (g : ℕ) (args : List ℕ) (fn : Plain) (c : ℕ) → l ≡ length e.to + k → IsAt code i (Call to g args) → IsFunction code g fn → l ≡ length to + m → c ≡ fn.entry → Inv c m (i ∷ [])
