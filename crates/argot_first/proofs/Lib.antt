@@ -8,3 +8,4 @@ pub mod Spread
 pub mod Backward
 pub mod Listed
 pub mod Exactly
+pub mod Instance

@@ -45,7 +45,7 @@ pub record Shape (code : Code) (functions : List Function) (kinds : List Kind) (
   pub called_live : (j : ℕ) (to : List ℕ) (g : ℕ) (args : List ℕ) → slice_get kinds j ≡ Some (Call to g args) → Live code g
 
 -- a block of the program in its code
-is-block : (file : File) (k : ℕ) → (b : FoundBlock (all_kinds file) (functions_of file.items) (items_functions 5 file.items) k) → IsBlock (code_of file) b.fn b.pl
+pub is-block : (file : File) (k : ℕ) → (b : FoundBlock (all_kinds file) (functions_of file.items) (items_functions 5 file.items) k) → IsBlock (code_of file) b.fn b.pl
 is-block file k b = record {
     name = b.name;
     params = b.params;
@@ -53,7 +53,7 @@ is-block file k b = record {
     kinds = λ i kind h. kind_at-is file (b.pl.entry + i) ∙ b.stands i kind h
   }
 
-found-at : (file : File) (k : ℕ) → k < length (functions_of file.items) → FoundBlock (all_kinds file) (functions_of file.items) (items_functions 5 file.items) k
+pub found-at : (file : File) (k : ℕ) → k < length (functions_of file.items) → FoundBlock (all_kinds file) (functions_of file.items) (items_functions 5 file.items) k
 found-at file k h = found-block (all_kinds file) 5 file.items (items-stand file) k h
 
 -- which function has a number
