@@ -1,4 +1,5 @@
 pub mod Turns
+pub mod Lines
 pub mod Lookup
 pub mod Blocks
 pub mod Shape
@@ -9,3 +10,4 @@ pub mod Backward
 pub mod Listed
 pub mod Exactly
 pub mod Instance
+pub mod Answers

@@ -2,3 +2,4 @@ pub mod Code
 pub mod Marks
 pub mod Flows
 pub mod Answer
+pub mod Report

@@ -8,6 +8,7 @@ mod found;
 mod kinds;
 mod lowering;
 mod marks;
+mod report;
 
 pub use analyse::analyse_first;
 pub use found::{Answer, Flow};

@@ -164,7 +164,7 @@ item-longer (Void f ps) r =
     let q = codes ") {}" ++ (10 ∷ r) in
     omega (arith, length-append f (40 ∷ parameters_text ps q), parameters_text-longer ps q)
 
-items-longer : (xs : List Item) (r : List ℕ) → length xs + length r ≤ length (items_text xs r)
+pub items-longer : (xs : List Item) (r : List ℕ) → length xs + length r ≤ length (items_text xs r)
 items-longer [] r = omega arith
 items-longer (x ∷ xs) r = omega (arith, items-longer xs r, item-longer x (items_text xs r))
 

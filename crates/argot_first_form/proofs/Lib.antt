@@ -5,3 +5,4 @@ pub mod Files
 pub mod Sound
 pub mod Checking
 pub mod Programs
+pub mod Bounds
