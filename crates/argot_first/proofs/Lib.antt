@@ -1,0 +1,13 @@
+pub mod Turns
+pub mod Lines
+pub mod Lookup
+pub mod Blocks
+pub mod Shape
+pub mod Before
+pub mod Forward
+pub mod Spread
+pub mod Backward
+pub mod Listed
+pub mod Exactly
+pub mod Instance
+pub mod Answers

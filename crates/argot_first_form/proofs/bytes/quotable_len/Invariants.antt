@@ -1,0 +1,7 @@
+use Rattle.std.proofs.Common.{◌≡◌, ◌+◌, drop}
+use Rattle.std.specs.List.{prefix_len}
+use Rattle.argot_first_form.specs.Bytes.{is_quotable}
+use Rattle.argot_first_form.proofs.bytes.quotable_len.Given as goal
+
+abbrev pub invariant-loop-b : goal.invariant-loop-b
+invariant-loop-b l = (l.len ≡ l.b-index) × (l.len + prefix_len is_quotable (drop l.b-index l.text) ≡ prefix_len is_quotable l.text)

@@ -1,0 +1,7 @@
+use Rattle.std.proofs.Common.{◌==◌, rules, tests}
+use Rattle.std.proofs.lemmas.Iterator.{YieldsList-from_slice}
+use Rattle.std.proofs.lemmas.Iterator.Search.{all_from_yields_List}
+use Rattle.argot_first_form.proofs.reader.only_newlines.Goals as goal
+
+pub returns : goal.returns
+returns c = all_from_yields_List (λ b. b == 10) _ _ _ c.all.ensures.ran (YieldsList-from_slice c.args.text.now cc) (λ x b q k. search (rules, tests))

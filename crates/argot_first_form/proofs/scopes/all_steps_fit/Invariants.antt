@@ -1,0 +1,6 @@
+use Rattle.std.proofs.Common.{◌≡◌, take, drop, []}
+use Rattle.argot_first_form.specs.Checks.{steps_fit}
+use Rattle.argot_first_form.proofs.scopes.all_steps_fit.Given as goal
+
+abbrev pub invariant-loop-i : goal.invariant-loop-i
+invariant-loop-i l = steps_fit l.functions [] l.steps ≡ steps_fit l.functions (take l.i l.steps) (drop l.i l.steps)
