@@ -205,5 +205,5 @@ well_formed = record {
     global_file = λ k s ident at e. absurd cc;
   };
   tagged = each_instr (λ x. x.tags ≢ [] → IsReadOrMove x.kind) first_flow.instrs (λ n. absurd (n refl), (λ n. absurd (n refl), (λ n. absurd (n refl), (λ n. absurd (n refl), (λ n. absurd (n refl), (λ n. absurd (n refl), (λ n. absurd (n refl), (λ n. absurd (n refl), (λ n. absurd (n refl), (λ n. absurd (n refl), (λ n. absurd (n refl), (λ n. absurd (n refl), (λ n. absurd (n refl), (λ n. absurd (n refl), (λ n. absurd (n refl), (λ n. absurd (n refl), (λ n. absurd (n refl), (λ n. absurd (n refl), (λ n. absurd (n refl), (λ n. absurd (n refl), tt))))))))))))))))))));
-  limits = record { functions = omega arith; instrs = omega arith; leaves = leaf_count; shapes = λ n site e. absurd cc };
+  limits = record { functions = omega arith; instrs = omega arith; leaves = leaf_count; shapes = λ n site e f. absurd cc };
 }
