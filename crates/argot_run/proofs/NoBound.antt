@@ -1,16 +1,20 @@
 -- No answer that is due ends with a bound yet.
-use Rattle.std.proofs.Common.{◌≡◌, List, ℕ}
-use Rattle.argot_run.specs.Due.{Due, DueToFolder, Outside, no_source, other_files, other_text, nothing_flows, not_listed, not_read, wrong_words, of_folder}
+use Rattle.std.proofs.Common.{◌≡◌, List, ℕ, zero, suc}
+use Rattle.argot_run.specs.Due.{Due, DueToFolder, Outside, no_source, other_files, other_text, analysed, status_of, not_listed, not_read, wrong_words, of_folder}
 use Rattle.argot_run.specs.Ends.{Delivers, Ends, Sunk, reported, told, out_failed, err_failed, answered, no_memory}
 use Rattle.argot_run.specs.declared.answer.Answer.{Answer}
 use Rattle.argot_run.specs.declared.status.Status.{Status}
 use Rattle.argot_run.specs.declared.status.Status.TheVariants.{Bound}
 
+status_unbounded : (count : ℕ) → status_of count ≡ Bound → ⊥
+status_unbounded zero e = cc e
+status_unbounded (suc n) e = cc e
+
 folder_unbounded : {dir : List ℕ} {outside : Outside} (answer : Answer) → DueToFolder dir outside answer → answer.status ≡ Bound → ⊥
 folder_unbounded _ (no_source _ _) e = cc e
 folder_unbounded _ (other_files _ _) e = cc e
 folder_unbounded _ (other_text _ _) e = cc e
-folder_unbounded _ (nothing_flows _ _) e = cc e
+folder_unbounded _ (analysed count _ _ _) e = status_unbounded count e
 folder_unbounded _ (not_listed _ _) e = cc e
 folder_unbounded _ (not_read _ _ _) e = cc e
 

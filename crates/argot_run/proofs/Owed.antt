@@ -9,6 +9,7 @@ use Rattle.argot_run.specs.Due.{Outside, Due, DueToFolder, MainIs, main_path, no
 use Rattle.argot_run.specs.Listed.{HasNoSource, HasOthers, HasMainAlone, is_source, is_other_source}
 use Rattle.argot_run.specs.Words.{asked}
 use Rattle.argot_run.specs.declared.answer.Answer.{Answer}
+use Rattle.argot_run.specs.declared.status.Status.{Status}
 use Rattle.argot_run.specs.declared.status.Status.TheVariants.{ReadFault}
 
 -- a call whose `Ok` is the answer `a` gives what is true of `a`
@@ -51,3 +52,10 @@ pub when_asked :
     IfOk r (DueToFolder dir outside) → IfOk r (Due words outside)
 when_asked words dir outside ask (Ok answer) due = of_folder dir ask due
 when_asked words dir outside ask (Err _) due = tt
+
+-- an answer whose status is computed
+pub with_status :
+    (dir : List ℕ) (outside : Outside) (status known : Status) (text : List ℕ) → status ≡ known →
+    DueToFolder dir outside (record { status = known; text = text }) → DueToFolder dir outside (record { status = status; text = text })
+with_status dir outside status known text same due =
+    subst (λ (s : Status). DueToFolder dir outside (record { status = s; text = text })) (sym same) due

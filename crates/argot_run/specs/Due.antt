@@ -1,15 +1,22 @@
 -- Which answer is due to the words and the files.
-use Rattle.std.specs.Prelude.{◌≡◌, ℕ, List, ◌++◌, codes, Option, Some, None, IfSome}
+use Rattle.std.specs.Prelude.{◌≡◌, ℕ, zero, suc, List, ◌++◌, codes, Option, Some, None, IfSome}
 use Rattle.argot_io.specs.Faults.{Rose}
 use Rattle.argot_io.specs.Told.{Entry, listing, content}
 use Rattle.argot_io.specs.declared.files.FilesCall.{FilesCall}
 use Rattle.argot_io.specs.declared.files.FilesCall.TheVariants.{Listing, Reading}
-use Rattle.argot_run.specs.Form.{HasFirstForm}
+use Rattle.argot_first_form.specs.Form.{HasFirstForm}
+use Rattle.argot_first.specs.Answer.{IsReport}
 use Rattle.argot_run.specs.Listed.{HasNoSource, HasOthers, HasMainAlone}
-use Rattle.argot_run.specs.Texts.{usage_line, no_main_line, not_first_form_line, cannot_list_line, cannot_read_line, clean_report}
+use Rattle.argot_run.specs.Texts.{usage_line, no_main_line, not_first_form_line, cannot_list_line, cannot_read_line}
 use Rattle.argot_run.specs.Words.{asked}
 use Rattle.argot_run.specs.declared.answer.Answer.{Answer}
-use Rattle.argot_run.specs.declared.status.Status.TheVariants.{Clean, Refused, Unsupported, ReadFault}
+use Rattle.argot_run.specs.declared.status.Status.{Status}
+use Rattle.argot_run.specs.declared.status.Status.TheVariants.{Clean, Found, Refused, Unsupported, ReadFault}
+
+-- clean without a flow, found with one or more
+abbrev pub status_of : ℕ → Status
+status_of zero = Clean
+status_of (suc n) = Found
 
 -- the path of the folder's main file
 abbrev pub main_path : List ℕ → List ℕ
@@ -45,11 +52,11 @@ pub data DueToFolder (dir : List ℕ) (outside : Outside) : Answer → Type 0 wh
       IsCalm outside →
       IfSome outside.told (λ entries. HasMainAlone (listing dir entries) × MainIs (λ bytes. ¬ HasFirstForm bytes) dir entries) →
       DueToFolder dir outside (record { status = Unsupported; text = not_first_form_line })
-  -- it has, and nothing flows
-  nothing_flows :
-      IsCalm outside →
-      IfSome outside.told (λ entries. HasMainAlone (listing dir entries) × MainIs HasFirstForm dir entries) →
-      DueToFolder dir outside (record { status = Clean; text = clean_report })
+  -- it has, and this is the report of its flows
+  analysed :
+      (count : ℕ) (text : List ℕ) → IsCalm outside
+      → IfSome outside.told (λ entries. HasMainAlone (listing dir entries) × MainIs (λ bytes. IsReport bytes count text) dir entries)
+      → DueToFolder dir outside (record { status = status_of count; text = text })
   -- the folder couldn't be listed
   not_listed :
       Rose outside.before outside.now → outside.last ≡ Some (Listing dir) →

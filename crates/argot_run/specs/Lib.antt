@@ -1,9 +1,7 @@
-pub mod Blank
 pub mod Choice
 pub mod Codes
 pub mod Due
 pub mod Ends
-pub mod Form
 pub mod Listed
 pub mod Texts
 pub mod Words

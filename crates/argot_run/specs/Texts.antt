@@ -16,7 +16,3 @@ cannot_list_line dir = codes "argot: cannot list " ++ dir ++ codes "\n"
 
 abbrev pub cannot_read_line : List ℕ → List ℕ
 cannot_read_line path = codes "argot: cannot read " ++ path ++ codes "\n"
-
--- the report of a program without a flow
-abbrev pub clean_report : List ℕ
-clean_report = codes "0 flows, 0 escapes\n"

@@ -1,13 +1,13 @@
 // The answer that is due, before anything is written.
 ghost use Rattle.std.specs.Prelude.{◌≡◌, ◌++◌, IfOk, IfSome, codes, string_bytes};
 ghost use Rattle.argot_io.specs.Told.{listing};
-ghost use Rattle.argot_run.specs.Due.{Due, DueToFolder, main_path};
+ghost use Rattle.argot_run.specs.Due.{Due, DueToFolder, main_path, status_of};
 ghost use Rattle.argot_run.specs.Listed.{HasMainAlone};
 
 use crate::Status;
-use crate::form::has_first_form;
 use crate::listed::{Sources, sources_of};
 use crate::words::asked;
+use argot_first::{Answer as Analysis, analyse_first};
 use argot_io::{Files, FilesFault};
 use argot_text::{Memory, Out, Texts};
 use std::alloc::Global;
@@ -25,8 +25,6 @@ const USAGE: &str =
 const NO_MAIN: &str = "argot: no main function in folder .\n";
 
 const NOT_FIRST_FORM: &str = "argot: not of the first form\n";
-
-const CLEAN: &str = "0 flows, 0 escapes\n";
 
 /// The answer to the words, from what the files say.
 pub fn answer_to<F: Files>(alloc: Global, words: &Texts, files: &mut F) -> Result<Answer, Memory>
@@ -68,10 +66,21 @@ fn answer_to_main<F: Files>(alloc: Global, dir: &str, files: &mut F) -> Result<A
         Err(FilesFault::Memory) => return Err(Memory),
         Err(FilesFault::Failed) => return naming(alloc, "argot: cannot read ", path),
     };
-    if has_first_form(bytes.as_slice()) {
-        fixed(alloc, Status::Clean, CLEAN)
-    } else {
-        fixed(alloc, Status::Unsupported, NOT_FIRST_FORM)
+    match analyse_first(alloc, bytes.as_slice())? {
+        Analysis::Unsupported => fixed(alloc, Status::Unsupported, NOT_FIRST_FORM),
+        Analysis::Report { count, text } => Ok(Answer {
+            status: status_of(count),
+            text,
+        }),
+    }
+}
+
+fn status_of(count: usize) -> Status
+    ensures { result ≡ status_of count }
+{
+    match count {
+        0 => Status::Clean,
+        _ => Status::Found,
     }
 }
 

@@ -7,7 +7,6 @@
 
 mod answer;
 mod deliver;
-mod form;
 mod listed;
 mod status;
 mod top;

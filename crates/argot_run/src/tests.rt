@@ -224,3 +224,47 @@ fn a_file_has_at_most_4096_bytes(rt: HostRuntime) -> Result<(), Fail> {
         OTHER,
     )
 }
+
+// The lines that the worked programs begin with.
+const SOURCE_AND_SINK: &str =
+    "package main\nfunc source() string { return \"secret\" }\nfunc sink(x string) {}\n";
+
+// Runs `taint` over one file of the worked lines and these.
+fn program<R: Abort + Threads + Sync + AllocGlobal>(
+    rt: &R,
+    lines: &str,
+    status: Status,
+    out: &str,
+) -> Result<(), Fail> {
+    let mut text = String::from_str(rt.alloc(), SOURCE_AND_SINK)?;
+    text.push_str(lines)?;
+    folder(rt, "p", &[("p/main.go", text.as_str())], status, out, "")
+}
+
+#[test]
+fn flows_of_the_worked_programs(rt: HostRuntime) -> Result<(), Fail> {
+    program(
+        &rt,
+        "\nfunc main() {\n\tx := source()\n\tsink(x)\n}\n",
+        Status::Found,
+        "flow default: main.go:6:7 main.source -> main.go:7:2 main.sink arg 0\n1 flows, 0 escapes\n",
+    )?;
+    program(
+        &rt,
+        "func main() {\n\tx := source()\n\tx = \"ok\"\n\tsink(x)\n}\n",
+        Status::Clean,
+        CLEAN,
+    )?;
+    program(
+        &rt,
+        "func id(x string) string { return x }\nfunc main() {\n\ta := id(source())\n\tb := id(\"ok\")\n\tsink(a)\n}\n",
+        Status::Found,
+        "flow default: main.go:6:10 main.source -> main.go:8:2 main.sink arg 0\n1 flows, 0 escapes\n",
+    )?;
+    program(
+        &rt,
+        "func id(x string) string { return x }\nfunc main() {\n\ta := id(source())\n\tb := id(\"ok\")\n\tsink(b)\n}\n",
+        Status::Clean,
+        CLEAN,
+    )
+}

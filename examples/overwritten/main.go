@@ -1,0 +1,10 @@
+package main
+
+func source() string { return "secret" }
+func sink(x string) {}
+
+func main() {
+	x := source()
+	x = "ok"
+	sink(x)
+}
