@@ -1,5 +1,5 @@
 -- Counts that are known are right, and where none can be added all are known.
-use Rattle.std.proofs.Common.{◌≡◌, ℕ, zero, suc, ◌+◌, ◌-◌, ◌^◌, ◌<◌, ◌≤◌, ◌⊎◌, min, Bool, true, false, List, [], ◌∷◌, ◌++◌, length, map, get_or, set, drop, replicate, Option, Some, None, refl, sym, ap, ap₂, ◌∙◌, subst, inl, inr, arith, length-append, drop-cons}
+use Rattle.std.proofs.Common.{◌≡◌, ℕ, zero, suc, ◌+◌, ◌-◌, ◌<◌, ◌≤◌, ◌⊎◌, false, List, [], ◌∷◌, length, get_or, set, drop, replicate, Option, Some, None, refl, sym, ap, ap₂, ◌∙◌, inl, inr, arith, length-append, drop-cons}
 use Rattle.std.specs.List.{AllByRecursion}
 use Rattle.std.specs.Option.{is_some}
 use Rattle.std.proofs.lemmas.Bool.{cases_eq, cases_lt}
@@ -7,12 +7,12 @@ use Rattle.std.proofs.lemmas.List.{get_or-set_same, get_or-set_other, get_or_pas
 use Rattle.argot_text.specs.declared.path.PathStep.{PathStep}
 use Rattle.argot_typed.specs.declared.shape.FieldShape.{FieldShape}
 use Rattle.argot_typed.specs.declared.shape.Shape.{Shape}
-use Rattle.argot_typed.specs.declared.shape.Shape.TheVariants.{Truth, Chars, Whole, Named, Pointer, Array, Slice, Map, Struct, Func, Interface, Chan, Untyped, NilShape}
-use Rattle.argot_typed.specs.Parts.{shape_at, types_of_fields, parts_of, held_by}
+use Rattle.argot_typed.specs.declared.shape.Shape.TheVariants.{Named, Array, Struct}
+use Rattle.argot_typed.specs.Parts.{shape_at, types_of_fields, held_by}
 use Rattle.argot_typed.specs.Fitting.{Ends, AreFit}
 use Rattle.argot_typed.specs.Leaves.{leaves_of_fields, leaves_of_shape, leaves_of, capped, leaf_count_of}
 use Rattle.argot_typed.specs.Counts.{count_sum, count_of_fields, count_of_shape, known_at, AreRight, IsClosed, unknown_count}
-use Rattle.argot_typed.proofs.Walks.{each, both, held_parts, held, leaves_are}
+use Rattle.argot_typed.proofs.Walks.{both, held_parts, held, leaves_are}
 
 -- ---- sums
 

@@ -1,5 +1,5 @@
 -- Leaves by their number: one step along a path.
-use Rattle.std.proofs.Common.{◌≡◌, ℕ, zero, suc, ◌+◌, ◌-◌, ◌^◌, ◌<◌, ◌≤◌, List, [], ◌∷◌, ◌++◌, length, map, get_or, drop, take, Option, Some, None, refl, sym, ap, ap₂, ◌∙◌, subst, arith, add-one, append_assoc, length-append, drop-cons}
+use Rattle.std.proofs.Common.{◌≡◌, ℕ, zero, suc, ◌+◌, ◌-◌, ◌^◌, ◌<◌, ◌≤◌, List, [], ◌∷◌, ◌++◌, length, map, get_or, drop, take, Option, Some, None, refl, sym, ap, ◌∙◌, subst, arith, append_assoc, length-append, drop-cons}
 use Rattle.std.specs.List.{AllByRecursion, Contains, slice_get}
 use Rattle.std.specs.Option.{option_map, option_to_list}
 use Rattle.std.proofs.lemmas.List.{length-map, append-nil, take_more}
@@ -14,9 +14,9 @@ use Rattle.argot_typed.specs.declared.shape.Shape.{Shape}
 use Rattle.argot_typed.specs.declared.shape.Shape.TheVariants.{Named, Array, Struct}
 use Rattle.argot_typed.specs.declared.paths.Found.{Found}
 use Rattle.argot_typed.specs.declared.paths.Step.{Step}
-use Rattle.argot_typed.specs.Parts.{shape_at, types_of_fields, held_by, field_count, parts_of}
+use Rattle.argot_typed.specs.Parts.{shape_at, types_of_fields, held_by, field_count}
 use Rattle.argot_typed.specs.Fitting.{Ends, AreFit}
-use Rattle.argot_typed.specs.Leaves.{leaves_of, leaves_of_fields, leaves_of_shape, leaf_count_of, capped}
+use Rattle.argot_typed.specs.Leaves.{leaves_of, leaves_of_fields, leaves_of_shape, leaf_count_of}
 use Rattle.argot_typed.specs.Steps.{IsFound, IsOnward}
 use Rattle.argot_typed.proofs.Walks.{held, held_parts, leaves_are}
 
@@ -66,7 +66,6 @@ module _ (shapes : List Shape) (fs : List FieldShape) (n k left : ℕ) (d : Fiel
     (there : left < length (leaves_of_fields (leaves_of shapes) k (drop k fs)))
     (few : length (leaves_of_fields (leaves_of shapes) k (drop k fs)) ≤ 4096)
     (same : slice_get (leaves_of_fields (leaves_of shapes) 0 fs) n ≡ slice_get (leaves_of_fields (leaves_of shapes) k (drop k fs)) left) where
-
   abbrev first : List (List PathStep)
   first = map (λ path. Field k ∷ path) (leaves_of shapes (get_or fs k d).of.0)
 

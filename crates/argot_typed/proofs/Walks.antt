@@ -1,11 +1,11 @@
 -- Walks that end, and the leaf paths of a table that fits.
-use Rattle.std.proofs.Common.{◌≡◌, ℕ, zero, suc, ◌+◌, ◌<◌, ◌≤◌, List, [], ◌∷◌, ◌++◌, length, map, refl, sym, ap, ap₂, ◌∙◌, subst, arith}
+use Rattle.std.proofs.Common.{◌≡◌, ℕ, zero, suc, ◌<◌, ◌≤◌, List, [], ◌∷◌, ◌++◌, length, map, refl, ap, ap₂, arith}
 use Rattle.std.specs.List.{AllByRecursion}
 use Rattle.argot_text.specs.declared.path.PathStep.{PathStep}
 use Rattle.argot_text.specs.declared.path.PathStep.TheVariants.{Field, Element}
 use Rattle.argot_typed.specs.declared.shape.FieldShape.{FieldShape}
 use Rattle.argot_typed.specs.declared.shape.Shape.{Shape}
-use Rattle.argot_typed.specs.declared.shape.Shape.TheVariants.{Truth, Chars, Whole, Named, Pointer, Array, Slice, Map, Struct, Func, Interface, Chan, Untyped, NilShape}
+use Rattle.argot_typed.specs.declared.shape.Shape.TheVariants.{Named, Array, Struct}
 use Rattle.argot_typed.specs.Parts.{shape_at, types_of_fields, parts_of, held_by}
 use Rattle.argot_typed.specs.Fitting.{Ends, AreFit}
 use Rattle.argot_typed.specs.Leaves.{leaves_of_fields, leaves_of_shape, leaves_within, leaves_of}

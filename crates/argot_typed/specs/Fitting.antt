@@ -1,5 +1,5 @@
 -- What it means that the numbers in a table of types fit it.
-use Rattle.std.specs.Prelude.{ℕ, zero, suc, ◌^◌, ◌<◌, List, length}
+use Rattle.std.specs.Prelude.{ℕ, zero, suc, ◌^◌, ◌<◌, List, [], ◌∷◌, length, ⊤}
 use Rattle.std.specs.List.{AllByRecursion, Contains}
 use Rattle.argot_typed.specs.declared.shape.Shape.{Shape}
 use Rattle.argot_typed.specs.Parts.{shape_at, field_count, parts_of, held_by, unnamed_parts_of}
@@ -21,3 +21,11 @@ pub record AreFit (shapes : List Shape) : Type 0 where
   pub named : (t : ℕ) → t < length shapes → Ends (λ u. unnamed_parts_of (shape_at shapes u)) (length shapes) t
   pub fields : (t : ℕ) → t < length shapes → field_count (shape_at shapes t) < 2 ^ 32
   pub held : (t : ℕ) → t < length shapes → Ends (λ u. held_by (shape_at shapes u)) (length shapes) t
+
+-- each type stands behind its parts, the first at number n
+abbrev pub IsOrderedFrom : ℕ → List Shape → Type 0
+IsOrderedFrom n [] = ⊤
+IsOrderedFrom n (s ∷ ss) = AllByRecursion (λ p. p < n) (parts_of s) × (field_count s < 2 ^ 32) × IsOrderedFrom (suc n) ss
+
+abbrev pub IsOrdered : List Shape → Type 0
+IsOrdered shapes = IsOrderedFrom 0 shapes

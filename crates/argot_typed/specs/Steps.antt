@@ -1,9 +1,8 @@
 -- One step along a leaf path, when a leaf is known by its number.
-use Rattle.std.specs.Prelude.{◌≡◌, ℕ, ◌<◌, ◌≤◌, List, [], ◌∷◌, ◌++◌, length, slice_get, Some, option_to_list}
+use Rattle.std.specs.Prelude.{◌≡◌, ℕ, ◌<◌, ◌≤◌, List, [], ◌∷◌, ◌++◌, length, slice_get, option_to_list}
 use Rattle.std.specs.Option.{option_map, MatchOption}
 use Rattle.std.specs.List.{Contains}
 use Rattle.std.specs.declared.option.Option.{Option}
-use Rattle.argot_text.specs.declared.path.PathStep.{PathStep}
 use Rattle.argot_text.specs.declared.path.PathStep.TheVariants.{Field}
 use Rattle.argot_typed.specs.declared.shape.FieldShape.{FieldShape}
 use Rattle.argot_typed.specs.declared.shape.Shape.{Shape}

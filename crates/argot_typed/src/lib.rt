@@ -8,8 +8,6 @@
 //! one step, however often types are shared or nested.
 #![tactic(auto)]
 
-
-
 mod counting;
 pub mod laws;
 mod paths;
@@ -17,8 +15,10 @@ mod program;
 mod shape;
 mod table;
 
-
 pub use paths::{leaf_count, leaves};
 pub use program::{Decl, NodeConst, NodeType, Package, Packages, TypedProgram, Use};
 pub use shape::{Dir, FieldShape, MethodShape, Shape, TypeId};
 pub use table::TypeTable;
+
+#[cfg(test)]
+mod tests;

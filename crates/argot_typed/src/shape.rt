@@ -24,7 +24,10 @@ pub enum Shape {
     /// Texts.
     Chars,
     /// Whole numbers of so many bits.
-    Whole { bits: u8, signed: bool },
+    Whole {
+        bits: u8,
+        signed: bool,
+    },
     /// A declared type: its declaration, the type under its name, and the methods declared for it.
     Named {
         decl: u32,
@@ -32,15 +35,27 @@ pub enum Shape {
         methods: Sequence<MethodShape>,
     },
     /// Pointers.
-    Pointer { to: TypeId },
+    Pointer {
+        to: TypeId,
+    },
     /// Arrays of so many elements.
-    Array { len: u64, of: TypeId },
+    Array {
+        len: u64,
+        of: TypeId,
+    },
     /// Slices.
-    Slice { of: TypeId },
+    Slice {
+        of: TypeId,
+    },
     /// Maps.
-    Map { key: TypeId, value: TypeId },
+    Map {
+        key: TypeId,
+        value: TypeId,
+    },
     /// Structs.
-    Struct { fields: Sequence<FieldShape> },
+    Struct {
+        fields: Sequence<FieldShape>,
+    },
     /// Functions. The last parameter of a variadic one has the slice type.
     Func {
         params: Sequence<TypeId>,
@@ -48,11 +63,18 @@ pub enum Shape {
         variadic: bool,
     },
     /// Interfaces, with all their methods, those of embedded interfaces too.
-    Interface { methods: Sequence<MethodShape> },
+    Interface {
+        methods: Sequence<MethodShape>,
+    },
     /// Channels.
-    Chan { dir: Dir, of: TypeId },
+    Chan {
+        dir: Dir,
+        of: TypeId,
+    },
     /// Untyped constants and truth values, with their default type.
-    Untyped { normal: TypeId },
+    Untyped {
+        normal: TypeId,
+    },
     /// The name `nil`.
     NilShape,
 }

@@ -1,4 +1,4 @@
-use Rattle.std.proofs.Common.{◌≡◌, ◌-◌, ◌<◌, length, None, slice_index_or, sym, arith, rules}
+use Rattle.std.proofs.Common.{◌≡◌, ◌-◌, length, None, slice_index_or, sym, arith, rules}
 use Rattle.argot_typed.specs.Counts.{known_at}
 use Rattle.argot_typed.proofs.Counted.{field_below, fields_none}
 use Rattle.argot_typed.proofs.counting.count_of_fields.Goals as goal

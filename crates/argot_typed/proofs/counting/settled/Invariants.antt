@@ -1,4 +1,4 @@
-use Rattle.std.proofs.Common.{◌≡◌, ℕ, ◌<◌, ◌≤◌, length, slice_index, Some}
+use Rattle.std.proofs.Common.{◌≡◌, ℕ, ◌<◌, length, slice_index, Some}
 use Rattle.argot_typed.specs.Counts.{known_at}
 use Rattle.argot_typed.proofs.counting.settled.Given as goal
 

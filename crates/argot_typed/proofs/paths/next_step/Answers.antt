@@ -1,6 +1,5 @@
-use Rattle.std.proofs.Common.{◌≡◌, ◌<◌, ◌≤◌, ◌^◌, List, [], ◌∷◌, length, subst, sym, ap, ◌∙◌, rules}
+use Rattle.std.proofs.Common.{◌≡◌, ◌<◌, ◌≤◌, ◌^◌, [], ◌∷◌, length, subst, sym, ◌∙◌, rules}
 use Rattle.std.specs.List.{AllByRecursion}
-use Rattle.argot_text.specs.declared.path.PathStep.{PathStep}
 use Rattle.argot_typed.specs.Parts.{types_of_fields}
 use Rattle.argot_typed.specs.Leaves.{leaves_of, leaves_of_fields, leaves_of_shape}
 use Rattle.argot_typed.specs.Steps.{IsFound}

@@ -1,0 +1,5 @@
+use Rattle.argot_typed.proofs.Ending.{ordered_fit}
+use Rattle.argot_typed.proofs.tests.nested.Goals as goal
+
+pub from_vec-requires : goal.from_vec-requires
+from_vec-requires c = ordered_fit _ c.loop-depth.invariant.ordered
