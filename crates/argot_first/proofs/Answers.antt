@@ -14,12 +14,13 @@ use Rattle.argot_first_form.specs.declared.lines.Program.{Program}
 use Rattle.argot_first_form.specs.declared.functions.Function.{Function}
 use Rattle.argot_first_form.specs.declared.steps.Step.{Step}
 use Rattle.argot_first_form.proofs.Bounds as bounds
+use Rattle.argot_first_form.proofs.Programs as programs
 use Rattle.argot_first.specs.declared.kinds.Kind.{Kind}
 use Rattle.argot_first.specs.declared.found.Flow.{Flow}
 use Rattle.argot_first.specs.declared.found.Answer.TheVariants.{Report}
 use Rattle.argot_first.specs.Code.{Code, Instr, all_places, main_entry, step_instrs, code_of}
 use Rattle.argot_first.specs.Flows.{IsFlow}
-use Rattle.argot_first.specs.Answer.{AreFlows, IsReport, IsAnswer, offset_in, position_text, flow_line, report}
+use Rattle.argot_first.specs.Answer.{AreFlows, IsReport, IsReportOf, IsAnswer, offset_in, position_text, flow_line, report}
 use Rattle.argot_first.specs.Marks.{kinds_from, all_flows}
 use Rattle.argot_first.specs.Report.{position, position_at, text_at, argument_text, line, lines, whole, all_places_of, nowhere}
 use Rattle.argot_first.proofs.Lookup.{some-same, get-left, get-right, get-at}
@@ -69,7 +70,7 @@ offset-at file j s h =
     let x = instr-get (functions_of file.items) (steps_of file) 0 (steps_of file) j s h in
     let n : base_of file + j ≡ 5 + (length items + suc j) = omega (arith, length-items file) in
     let e : slice_get (code_of file).instrs (base_of file + j) ≡ Some x.0 =
-        get-at (entry_instrs file) (items ++ main_instrs file) (base_of file + j) (length items + suc j) n ∙ (get-right items (main_instrs file) (suc j) ∙ get-left (step_instrs (functions_of file.items) (steps_of file) 0 (steps_of file)) _ j x.0 x.1) in
+    get-at (entry_instrs file) (items ++ main_instrs file) (base_of file + j) (length items + suc j) n ∙ (get-right items (main_instrs file) (suc j) ∙ get-left (step_instrs (functions_of file.items) (steps_of file) 0 (steps_of file)) _ j x.0 x.1) in
     ap offset_in e ∙ x.2
 
 minus-base : (b j : ℕ) → b + j - b ≡ j
@@ -79,7 +80,7 @@ minus-base b j = omega arith
 place-text : (file : File) (bytes : List ℕ) (j : ℕ) (s : Step) → slice_get (steps_of file) j ≡ Some s → text_at (position_at (map (position bytes) (steps_of file)) (base_of file) (base_of file + j)) ≡ position_text bytes (code_of file) (base_of file + j)
 place-text file bytes j s h =
     let p : slice_get (map (position bytes) (steps_of file)) (base_of file + j - base_of file) ≡ Some (position bytes s) =
-        ap (slice_get (map (position bytes) (steps_of file))) (minus-base (base_of file) j) ∙ (slice_get-map (position bytes) (steps_of file) j ∙ ap (option_map (position bytes)) h) in
+    ap (slice_get (map (position bytes) (steps_of file))) (minus-base (base_of file) j) ∙ (slice_get-map (position bytes) (steps_of file) j ∙ ap (option_map (position bytes)) h) in
     ap (λ y. text_at (unwrap_or y nowhere)) p ∙ ap (λ at. codes "main.go:" ++ (decimal (line_of bytes at) ++ (codes ":" ++ decimal (column_of bytes at)))) (sym (offset-at file j s h))
 
 kinds-step : (functions : List Function) (steps : List Step) (i : ℕ) (ss : List Step) (j : ℕ) (kind : Kind) → slice_get (kinds_from functions steps i ss) j ≡ Some kind → (s : Step) × (slice_get ss j ≡ Some s)
@@ -95,9 +96,9 @@ lined : (file : File) (bytes : List ℕ) (i j k : ℕ) (f : Flow) (a b : Step) �
 unfolding line
 lined file bytes i j k f a b ha hb e =
     let u : text_at (position_at (map (position bytes) (steps_of file)) (base_of file) f.source) ≡ position_text bytes (code_of file) f.source =
-        subst (λ y. text_at (position_at (map (position bytes) (steps_of file)) (base_of file) y) ≡ position_text bytes (code_of file) y) (ap (λ y. y.source) (sym e)) (place-text file bytes i a ha) in
+    subst (λ y. text_at (position_at (map (position bytes) (steps_of file)) (base_of file) y) ≡ position_text bytes (code_of file) y) (ap (λ y. y.source) (sym e)) (place-text file bytes i a ha) in
     let v : text_at (position_at (map (position bytes) (steps_of file)) (base_of file) f.sink) ≡ position_text bytes (code_of file) f.sink =
-        subst (λ y. text_at (position_at (map (position bytes) (steps_of file)) (base_of file) y) ≡ position_text bytes (code_of file) y) (ap (λ y. y.sink) (sym e)) (place-text file bytes j b hb) in
+    subst (λ y. text_at (position_at (map (position bytes) (steps_of file)) (base_of file) y) ≡ position_text bytes (code_of file) y) (ap (λ y. y.sink) (sym e)) (place-text file bytes j b hb) in
     ap (λ y. codes "flow default: " ++ (y ++ (codes " main.source -> " ++ (text_at (position_at (map (position bytes) (steps_of file)) (base_of file) f.sink) ++ argument_text f.argument)))) u ∙ ap (λ y. codes "flow default: " ++ (position_text bytes (code_of file) f.source ++ (codes " main.source -> " ++ (y ++ argument_text f.argument)))) v
 
 line-of-flow : (file : File) (bytes : List ℕ) (f : Flow) → Has (all_flows (functions_of file.items) (base_of file) (main_steps file) 0 (main_steps file)) f → line (map (position bytes) (steps_of file)) (base_of file) f ≡ flow_line bytes (code_of file) f
@@ -106,7 +107,7 @@ line-of-flow file bytes f h =
     let i = step-of file a.step a.kind a.is_step in
     let j = step-of file a.sunk.step a.sunk.kind a.sunk.is_step in
     let e : f ≡ flow (base_of file + a.step) (base_of file + a.sunk.step) a.sunk.index =
-        a.sunk.is_flow ∙ (ap (λ y. flow (base_of file + y) (base_of file + (0 + a.sunk.step)) a.sunk.index) (zero-add a.step) ∙ ap (λ y. flow (base_of file + a.step) (base_of file + y) a.sunk.index) (zero-add a.sunk.step)) in
+    a.sunk.is_flow ∙ (ap (λ y. flow (base_of file + y) (base_of file + (0 + a.sunk.step)) a.sunk.index) (zero-add a.step) ∙ ap (λ y. flow (base_of file + a.step) (base_of file + y) a.sunk.index) (zero-add a.sunk.step)) in
     lined file bytes a.step a.sunk.step a.sunk.index f i.0 j.0 i.1 j.1 e
 
 report-of : (file : File) (bytes : List ℕ) → whole (map (position bytes) (steps_of file)) (base_of file) (all_flows (functions_of file.items) (base_of file) (main_steps file) 0 (main_steps file)) ≡ report bytes (code_of file) (all_flows (functions_of file.items) (base_of file) (main_steps file) 0 (main_steps file))
@@ -118,25 +119,32 @@ base-same : (file : File) → all_places_of (functions_of file.items) + 6 ≡ ba
 base-same file = omega (arith, places-same file.items)
 
 -- what was computed of a program is the report of its file
-computed : (bytes : List ℕ) (file : File) (form : IsFirstForm file bytes) (base count : ℕ) (kinds : List Kind) (flows : List Flow) (positions : List Pos) (text : List ℕ) → base ≡ base_of file → kinds ≡ main_steps file → flows ≡ all_flows (functions_of file.items) base kinds 0 kinds → positions ≡ map (position bytes) (steps_of file) → text ≡ whole positions base flows → count ≡ length flows → IsReport bytes count text
+computed : (bytes : List ℕ) (file : File) (form : IsFirstForm file bytes) (base count : ℕ) (kinds : List Kind) (flows : List Flow) (positions : List Pos) (text : List ℕ) → base ≡ base_of file → kinds ≡ main_steps file → flows ≡ all_flows (functions_of file.items) base kinds 0 kinds → positions ≡ map (position bytes) (steps_of file) → text ≡ whole positions base flows → count ≡ length flows → IsReportOf file bytes count text
 computed bytes file form base count kinds flows positions text eb ek ef ep et ec =
     let fl = all_flows (functions_of file.items) (base_of file) (main_steps file) 0 (main_steps file) in
     let same : flows ≡ fl = ef ∙ (ap (λ y. all_flows (functions_of file.items) y kinds 0 kinds) eb ∙ ap (λ y. all_flows (functions_of file.items) (base_of file) y 0 y) ek) in
     let exact : AreFlows (code_of file) fl = exactly (code_of file) (functions_of file.items) (main_steps file) (base_of file) (shape-of file form.functions form.steps) in
     record {
-      file = file;
-      form = form;
       flows = fl;
       are_flows = exact;
       counted = ec ∙ ap length same;
-      reported = et ∙ (ap (λ y. whole y base flows) ep ∙ (ap (λ y. whole (map (position bytes) (steps_of file)) y flows) eb ∙ (ap (whole (map (position bytes) (steps_of file)) (base_of file)) same ∙ report-of file bytes)))
+      reported = et ∙ (ap (λ y. whole y base flows) ep ∙ (ap (λ y. whole (map (position bytes) (steps_of file)) y flows) eb ∙ (ap (whole (map (position bytes) (steps_of file)) (base_of file)) same ∙ report-of file bytes)));
     }
+
+-- every tree with this text gives the same program
+same-program : (bytes : List ℕ) (p : Program) → IsProgram bytes p → (file : File) → IsFirstForm file bytes → (p.functions ≡ functions_of file.items) × (p.steps ≡ steps_of file)
+same-program bytes p h file form = programs.same bytes p h file form
+
+each-reported : (bytes : List ℕ) (p : Program) (base count : ℕ) (kinds : List Kind) (flows : List Flow) (positions : List Pos) (text : List ℕ) → IsProgram bytes p → base ≡ all_places_of p.functions + 6 → kinds ≡ kinds_from p.functions p.steps 0 p.steps → flows ≡ all_flows p.functions base kinds 0 kinds → positions ≡ map (position bytes) p.steps → text ≡ whole positions base flows → count ≡ length flows → (file : File) → IsFirstForm file bytes → IsReportOf file bytes count text
+each-reported bytes p base count kinds flows positions text h eb ek ef ep et ec file form =
+    let s = same-program bytes p h file form in
+    computed bytes file form base count kinds flows positions text
+    (eb ∙ (ap (λ y. all_places_of y + 6) s.0 ∙ base-same file))
+    (ek ∙ (ap (λ y. kinds_from y p.steps 0 p.steps) s.0 ∙ ap (λ y. kinds_from (functions_of file.items) y 0 y) s.1))
+    (ef ∙ ap (λ y. all_flows y base kinds 0 kinds) s.0)
+    (ep ∙ ap (map (position bytes)) s.1)
+    et ec
 
 pub reported : (bytes : List ℕ) (p : Program) (base count : ℕ) (kinds : List Kind) (flows : List Flow) (positions : List Pos) (text : List ℕ) → IsProgram bytes p → base ≡ all_places_of p.functions + 6 → kinds ≡ kinds_from p.functions p.steps 0 p.steps → flows ≡ all_flows p.functions base kinds 0 kinds → positions ≡ map (position bytes) p.steps → text ≡ whole positions base flows → count ≡ length flows → IsReport bytes count text
 reported bytes p base count kinds flows positions text h eb ek ef ep et ec =
-    computed bytes h.file h.form base count kinds flows positions text
-    (eb ∙ (ap (λ y. all_places_of y + 6) h.functions ∙ base-same h.file))
-    (ek ∙ (ap (λ y. kinds_from y p.steps 0 p.steps) h.functions ∙ ap (λ y. kinds_from (functions_of h.file.items) y 0 y) h.steps))
-    (ef ∙ ap (λ y. all_flows y base kinds 0 kinds) h.functions)
-    (ep ∙ ap (map (position bytes)) h.steps)
-    et ec
+    record { form = (h.file, h.form); each = λ file form. each-reported bytes p base count kinds flows positions text h eb ek ef ep et ec file form }

@@ -236,7 +236,7 @@ module _ (code : Code) (functions : List Function) (kinds : List Kind) (base : �
         earlier = omega arith;
         reaches = onward p.reaches (λ l d. n (defines-by code functions kinds base sh s i l r kind h d).1) (step-goes i kind h);
         joins = p.joins;
-        gives = p.gives
+        gives = p.gives;
       }
 
   held-new : (i r : ℕ) (kind : Kind) → slice_get kinds i ≡ Some kind → target kind ≡ Some r → FromSource (base + i) 0 [] → HasTarget → Held (suc i) r
@@ -246,7 +246,7 @@ module _ (code : Code) (functions : List Function) (kinds : List Kind) (base : �
         earlier = omega arith;
         reaches = next (inl (subst (λ y. Gives y 0 r) (sym (sh.step_at i kind h)) (target-gives kind r t))) (step-goes i kind h);
         joins = j;
-        gives = g
+        gives = g;
       }
 
   some-differ : (o : Option ℕ) (q r : ℕ) → o ≡ Some q → q ≢ r → o ≡ Some r → ⊥

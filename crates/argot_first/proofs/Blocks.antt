@@ -173,7 +173,7 @@ main_kinds-is file = ap (λ z. Goto (main_entry file + 1) ∷ z) (kinds_of-appen
 pub kind_at-is : (file : File) (i : ℕ) → kind_at (code_of file) i ≡ slice_get (all_kinds file) i
 kind_at-is file i =
     let a : kinds_of (items_instrs (length (text_of file)) 5 file.items (codes "func " ++ main_name file) ++ main_instrs file) ≡ items_kinds 5 file.items ++ main_kinds file =
-        kinds_of-append (items_instrs (length (text_of file)) 5 file.items (codes "func " ++ main_name file)) (main_instrs file) ∙ (ap (λ z. z ++ kinds_of (main_instrs file)) (items_kinds-is (length (text_of file)) 5 file.items (codes "func " ++ main_name file)) ∙ ap (λ z. items_kinds 5 file.items ++ z) (main_kinds-is file)) in
+    kinds_of-append (items_instrs (length (text_of file)) 5 file.items (codes "func " ++ main_name file)) (main_instrs file) ∙ (ap (λ z. z ++ kinds_of (main_instrs file)) (items_kinds-is (length (text_of file)) 5 file.items (codes "func " ++ main_name file)) ∙ ap (λ z. items_kinds 5 file.items ++ z) (main_kinds-is file)) in
     kind_get (code_of file).instrs i ∙ ap (λ z. slice_get z i) (ap (λ z. entry_kinds file ++ z) a)
 
 pub items-stand : (file : File) → StandsAt (all_kinds file) 5 (items_kinds 5 file.items)

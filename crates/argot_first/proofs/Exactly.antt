@@ -18,7 +18,7 @@ use Rattle.argot_first.proofs.Before.{before, value}
 use Rattle.argot_first.proofs.Spread.{Inv, at_result, at_argument, at_parameter, at_moved, at_left, spread-all, step-is, entered-argument, entry-kind, given-kind}
 use Rattle.argot_first.proofs.Backward.{Held, held, taken}
 use Rattle.argot_first.proofs.Forward.{same-kind}
-use Rattle.argot_first.proofs.Listed.{flow, Has, Chain, chain-next,  Sunk, Sourced, all-sound, all-complete, all-chain, from-complete}
+use Rattle.argot_first.proofs.Listed.{flow, Has, Chain, chain-next, Sunk, Sourced, all-sound, all-complete, all-chain, from-complete}
 
 -- a step that counts calls a function of such a name
 pub record Counted (code : Code) (functions : List Function) (kinds : List Kind) (base j : ℕ) (kind : Kind) (counts : Plain → Bool) : Type 0 where
@@ -99,7 +99,7 @@ module _ (code : Code) (functions : List Function) (kinds : List Kind) (base : �
         sink = record { to = si.to; number = si.number; args = si.args; function = si.pl; live = sh.main_live i (omega arith); is_at = at_sink; is_function = si.is_pl; counted = si.counted };
         has_argument = slice_get_within si.args k r arg;
         calls = [];
-        joins = taken code functions kinds base sh d i (length si.to + k) r (Call si.to si.number si.args) step p (k, refl, arg)
+        joins = taken code functions kinds base sh d i (length si.to + k) r (Call si.to si.number si.args) step p (k, refl, arg);
       }
 
   sound-by : (d : ℕ) (ks : Kind) (f : Flow) → slice_get kinds d ≡ Some ks → calls_named named_source functions ks ≡ true → Sunk functions base d 0 (no_marks kinds) kinds f → IsFlow code f.source f.sink f.argument
@@ -149,7 +149,7 @@ module _ (code : Code) (functions : List Function) (kinds : List Kind) (base : �
         is_place = e.is_place;
         is_step = e.is_step ∙ ap (λ y. Some y) q;
         is_argument = ap (λ y. slice_get c.args y) (sym mk) ∙ (ap (λ y. slice_get y m) (sym args) ∙ e.is_argument);
-        is_marked = e.is_marked
+        is_marked = e.is_marked;
       }
   arrives s t k c l calls el (at_parameter m e ei em) =
       absurd (cc (same-kind code e.pl.entry (Goto (e.pl.entry + 1)) (Call c.to c.number c.args) (entry-kind code functions kinds base sh s e.fn e.pl e.block) (subst (λ y. IsAt code y (Call c.to c.number c.args)) ei c.is_at)))
@@ -171,12 +171,12 @@ module _ (code : Code) (functions : List Function) (kinds : List Kind) (base : �
       let end = spread-all code functions kinds base sh d s f.result t (length f.sink.to + k) f.calls start f.joins in
       let a = arrives d t k f.sink (length f.sink.to + k) f.calls refl end in
       let here : Has (flows_from functions base d 0 (no_marks kinds) kinds) (flow (base + d) (base + (0 + a.step)) k) =
-          from-complete functions base d 0 (no_marks kinds) kinds a.step (Call f.sink.to f.sink.number f.sink.args) k a.register a.is_step si.is_named a.is_argument a.is_marked in
+      from-complete functions base d 0 (no_marks kinds) kinds a.step (Call f.sink.to f.sink.number f.sink.args) k a.register a.is_step si.is_named a.is_argument a.is_marked in
       let named : flow (base + d) (base + (0 + a.step)) k ≡ flow s t k =
-          ap (λ y. flow (base + d) (base + y) k) (zero-add a.step) ∙ (ap (λ y. flow y (base + a.step) k) (sym so.is_place) ∙ ap (λ y. flow s y k) (sym a.is_place)) in
+      ap (λ y. flow (base + d) (base + y) k) (zero-add a.step) ∙ (ap (λ y. flow y (base + a.step) k) (sym so.is_place) ∙ ap (λ y. flow s y k) (sym a.is_place)) in
       subst (Has (all_flows functions base kinds 0 kinds)) named
       (all-complete functions base 0 kinds kinds d kind (flow (base + d) (base + (0 + a.step)) k) so.is_step so.is_named
-        (subst (λ y. Has (flows_from functions base y 0 (no_marks kinds) kinds) (flow (base + d) (base + (0 + a.step)) k)) (sym (zero-add d)) here))
+      (subst (λ y. Has (flows_from functions base y 0 (no_marks kinds) kinds) (flow (base + d) (base + (0 + a.step)) k)) (sym (zero-add d)) here))
 
   -- the computed list is the list of flows
   pub exactly : AreFlows code (all_flows functions base kinds 0 kinds)
@@ -184,5 +184,5 @@ module _ (code : Code) (functions : List Function) (kinds : List Kind) (base : �
       record {
         ordered = λ i a b h k. chain-next (all_flows functions base kinds 0 kinds) (all-chain functions base 0 kinds kinds) i a b h (rw add-one at k);
         sound = λ i a h. sound a (i, h);
-        complete = λ s t k f. complete s t k f
+        complete = λ s t k f. complete s t k f;
       }

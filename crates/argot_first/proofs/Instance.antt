@@ -104,12 +104,18 @@ module _ (functions : List Function) (steps : List Step) (ff : FunctionsFit func
       let c = callee-by f (length vs) (named functions f) refl h in
       let k = position_or_len (λ g. bytes_eq g.name f) functions in
       let at : slice_get functions k ≡ Some c.fn = sym (find_at (λ g. bytes_eq g.name f) functions) ∙ c.is_named in
-      let n : length (map (register steps) vs) ≡ length c.fn.parameters = length-map vs (register steps) ∙ c.enough in
-      (k, c.fn, refl, at, n, results-by (has_result (named functions f)) j,
+      let n : length (map (register steps) vs) ≡ length c.fn.parameters = length-map vs (register steps) ∙ c.enough in (
+        k,
+        c.fn,
+        refl,
+        at,
+        n,
+        results-by (has_result (named functions f)) j,
         λ a e.
-          let r : has_result (named functions f) ≡ true = ap has_result c.is_named ∙ parameter-gives c.fn a e in
-          let own : returns_own c.fn.parameters (returns.Parameter a) ≡ true = ap (returns_own c.fn.parameters) (sym e) ∙ all-at (λ g. returns_own g.parameters g.returned) functions k c.fn at ff.returned_own in
-          (ap (λ y. if y then j ∷ [] else []) r, any-position (λ m. bytes_eq m a) c.fn.parameters own))
+            let r : has_result (named functions f) ≡ true = ap has_result c.is_named ∙ parameter-gives c.fn a e in
+            let own : returns_own c.fn.parameters (returns.Parameter a) ≡ true = ap (returns_own c.fn.parameters) (sym e) ∙ all-at (λ g. returns_own g.parameters g.returned) functions k c.fn at ff.returned_own in
+            (ap (λ y. if y then j ∷ [] else []) r, any-position (λ m. bytes_eq m a) c.fn.parameters own),
+      )
 
   action-shape : (j : ℕ) (s : Step) (a : Action) → s.action ≡ a → slice_get steps j ≡ Some s → StepShape functions (kinds_from functions steps 0 steps) j (kind_of functions steps j a)
   action-shape j s actions.Text e h = (refl, refl)
@@ -249,5 +255,5 @@ shape-of file ff sf =
       parameters = λ g pl f. parameters-of file g pl (which file g pl f);
       block = λ k fn h. block-of file k fn h;
       main_live = λ j h. place-live file j h;
-      called_live = λ j to g args h. called-live file j to g args h
+      called_live = λ j to g args h. called-live file j to g args h;
     }

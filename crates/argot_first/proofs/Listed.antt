@@ -165,9 +165,9 @@ from-chain functions base s n m [] = tt
 from-chain functions base s n m (k ∷ ks) =
     chain-append (step_flows functions (base + s) (base + n) m k) (flows_from functions base s (n + 1) (marks_after functions s n m k) ks) (step-chain (calls_named named_sink functions k) m (arguments_of k) (base + s) (base + n)) (from-chain functions base s (n + 1) (marks_after functions s n m k) ks)
     (λ x y p q.
-        let a = (step-by functions (base + s) (base + n) m k _ x refl p).1 in
-        let b = from-sound functions base s (n + 1) (marks_after functions s n m k) ks y q in
-        sink-before (base + s) (base + n) (base + (n + 1 + b.step)) (0 + a.index) b.index x y a.is_flow b.is_flow (omega arith))
+    let a = (step-by functions (base + s) (base + n) m k _ x refl p).1 in
+    let b = from-sound functions base s (n + 1) (marks_after functions s n m k) ks y q in
+    sink-before (base + s) (base + n) (base + (n + 1 + b.step)) (0 + a.index) b.index x y a.is_flow b.is_flow (omega arith))
 
 -- the sources whose data arrives
 pub record Sourced (functions : List Function) (base s : ℕ) (all kinds : List Kind) (f : Flow) : Type 0 where
@@ -221,6 +221,6 @@ all-chain functions base s all [] = tt
 all-chain functions base s all (k ∷ ks) =
     chain-append (source_flows functions base s k all) (all_flows functions base all (s + 1) ks) (source-chain functions base s all (calls_named named_source functions k)) (all-chain functions base (s + 1) all ks)
     (λ x y p q.
-        let a = (source-by functions base s all k _ x refl p).1 in
-        let b = all-sound functions base (s + 1) all ks y q in
-        source-before (base + s) (base + (s + 1 + b.step)) (base + (0 + a.step)) (base + (0 + b.sunk.step)) a.index b.sunk.index x y a.is_flow b.sunk.is_flow (omega arith))
+    let a = (source-by functions base s all k _ x refl p).1 in
+    let b = all-sound functions base (s + 1) all ks y q in
+    source-before (base + s) (base + (s + 1 + b.step)) (base + (0 + a.step)) (base + (0 + b.sunk.step)) a.index b.sunk.index x y a.is_flow b.sunk.is_flow (omega arith))

@@ -47,11 +47,11 @@ pub record Shape (code : Code) (functions : List Function) (kinds : List Kind) (
 -- a block of the program in its code
 pub is-block : (file : File) (k : ℕ) → (b : FoundBlock (all_kinds file) (functions_of file.items) (items_functions 5 file.items) k) → IsBlock (code_of file) b.fn b.pl
 is-block file k b = record {
-    name = b.name;
-    params = b.params;
-    leave = b.leave;
-    kinds = λ i kind h. kind_at-is file (b.pl.entry + i) ∙ b.stands i kind h
-  }
+  name = b.name;
+  params = b.params;
+  leave = b.leave;
+  kinds = λ i kind h. kind_at-is file (b.pl.entry + i) ∙ b.stands i kind h;
+}
 
 pub found-at : (file : File) (k : ℕ) → k < length (functions_of file.items) → FoundBlock (all_kinds file) (functions_of file.items) (items_functions 5 file.items) k
 found-at file k h = found-block (all_kinds file) 5 file.items (items-stand file) k h

@@ -156,7 +156,7 @@ module _ (code : Code) (functions : List Function) (kinds : List Kind) (base : �
         is_place = omega (arith, g2, e);
         later = omega arith;
         last = omega (arith, e);
-        is_marked = ap (λ y. marked y r) (past p.step h) ∙ p.is_marked
+        is_marked = ap (λ y. marked y r) (past p.step h) ∙ p.is_marked;
       }
   further-end j r m x p g h (inr e) =
       let at : m ≡ base + (length kinds + 1) = p.is_place ∙ ap (λ y. base + y) e in
@@ -180,7 +180,7 @@ module _ (code : Code) (functions : List Function) (kinds : List Kind) (base : �
         is_place = e ∙ omega arith;
         later = omega arith;
         last = omega (arith, h.1);
-        is_marked = kept p.step r h.0 h.2 (λ l d. n l (subst (λ y. Defines code y l r) (sym p.is_place) d)) p.is_marked
+        is_marked = kept p.step r h.0 h.2 (λ l d. n l (subst (λ y. Defines code y l r) (sym p.is_place) d)) p.is_marked;
       }
   further-by j r m x p n g (inr h) = further-end j r m x p g h (end-cases p.step (length kinds) h p.last)
 
@@ -244,11 +244,23 @@ module _ (code : Code) (functions : List Function) (kinds : List Kind) (base : �
       let f = sh.step_shape j (Call to g args) h in
       let b = sh.block f.0 f.1 f.3 in
       record {
-        step = j; to = to; number = g; args = args; register = r; index = f.0; fn = f.1; pl = b.0;
-        is_place = refl; is_step = h; is_argument = a; is_marked = m; is_index = f.2; is_fn = f.3;
+        step = j;
+        to = to;
+        number = g;
+        args = args;
+        register = r;
+        index = f.0;
+        fn = f.1;
+        pl = b.0;
+        is_place = refl;
+        is_step = h;
+        is_argument = a;
+        is_marked = m;
+        is_index = f.2;
+        is_fn = f.3;
         is_pl = subst (λ x. IsFunction code x b.0) (sym f.2) b.1;
         block = b.2;
-        enough = omega (arith, slice_get_within args k r a, f.4)
+        enough = omega (arith, slice_get_within args k r a, f.4);
       }
 
   -- what takes a register that has the data

@@ -40,15 +40,19 @@ flow_line bytes code f =
 abbrev pub report : List ℕ → Code → List Flow → List ℕ
 report bytes code flows = flat_map (flow_line bytes code) flows ++ (decimal (length flows) ++ (codes " flows, 0 escapes" ++ 10 ∷ []))
 
--- what is answered for a file with these bytes
-pub record IsReport (bytes : List ℕ) (count : ℕ) (text : List ℕ) : Type 0 where
-  pub file : File
-  pub form : IsFirstForm file bytes
+-- the number of a program's flows, and its report
+pub record IsReportOf (file : File) (bytes : List ℕ) (count : ℕ) (text : List ℕ) : Type 0 where
   pub flows : List Flow
   pub are_flows : AreFlows (code_of file) flows
   pub counted : count ≡ length flows
   pub reported : text ≡ report bytes (code_of file) flows
 
+-- the bytes have the first form, and this is the report of whatever tree has them as its text
+pub record IsReport (bytes : List ℕ) (count : ℕ) (text : List ℕ) : Type 0 where
+  pub form : HasFirstForm bytes
+  pub each : (file : File) → IsFirstForm file bytes → IsReportOf file bytes count text
+
+-- what is answered for a file with these bytes
 abbrev pub IsAnswer : List ℕ → Answer → Type 0
 IsAnswer bytes Unsupported = HasFirstForm bytes → ⊥
 IsAnswer bytes (Report count text) = IsReport bytes count text

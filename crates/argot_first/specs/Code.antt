@@ -142,5 +142,5 @@ abbrev pub code_of : File → Code
 code_of file =
     record {
       functions = entry_function ∷ (items_functions 5 file.items ++ main_function file ∷ []);
-      instrs = entry_instrs file ++ (items_instrs (length (text_of file)) 5 file.items (codes "func " ++ main_name file) ++ main_instrs file)
+      instrs = entry_instrs file ++ (items_instrs (length (text_of file)) 5 file.items (codes "func " ++ main_name file) ++ main_instrs file);
     }

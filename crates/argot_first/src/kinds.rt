@@ -6,9 +6,15 @@ use sqlite_items::Items;
 #[derive(Debug, Drop)]
 pub enum Kind {
     /// Gives a value that is made from these registers.
-    Op { to: usize, from: Items<usize> },
+    Op {
+        to: usize,
+        from: Items<usize>,
+    },
     /// Gives what another register holds.
-    Move { to: usize, from: usize },
+    Move {
+        to: usize,
+        from: usize,
+    },
     /// Calls the function with this number.
     Call {
         to: Items<usize>,
@@ -18,9 +24,15 @@ pub enum Kind {
     /// Runs the deferred calls.
     RunDefers,
     /// Ends the function and hands these registers back.
-    Leave { from: Items<usize> },
+    Leave {
+        from: Items<usize>,
+    },
     /// Goes on at a place.
-    Goto { target: usize },
+    Goto {
+        target: usize,
+    },
     /// Goes on at any of these places.
-    Branch { targets: Items<usize> },
+    Branch {
+        targets: Items<usize>,
+    },
 }

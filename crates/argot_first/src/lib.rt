@@ -13,4 +13,3 @@ mod report;
 pub use analyse::analyse_first;
 pub use found::{Answer, Flow};
 pub use kinds::Kind;
-

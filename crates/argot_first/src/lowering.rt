@@ -6,7 +6,7 @@ ghost use Rattle.argot_first.specs.Code.{variable, register, function_number, ki
 ghost use Rattle.argot_first.specs.Marks.{kinds_from};
 
 use crate::kinds::Kind;
-use argot_first_form::{Action, Function, Operand, Step, has_result, declares};
+use argot_first_form::{Action, Function, Operand, Step, declares, has_result};
 use argot_text::Memory;
 use sqlite_items::Items;
 use std::alloc::Global;
@@ -34,11 +34,7 @@ fn register(steps: &[Step], operand: &Operand) -> usize
     }
 }
 
-fn registers(
-    alloc: Global,
-    steps: &[Step],
-    operands: &[Operand],
-) -> Result<Items<usize>, Memory>
+fn registers(alloc: Global, steps: &[Step], operands: &[Operand]) -> Result<Items<usize>, Memory>
     ensures { IfOk result (λ rs. rs ≡ map (register steps.now) operands.now) }
 {
     let mut numbers = Items::new(alloc);
@@ -104,7 +100,10 @@ fn kind_of(
             to: number,
             from: register(steps, value),
         }),
-        Action::Assign { variable: name, value } => Ok(Kind::Move {
+        Action::Assign {
+            variable: name,
+            value,
+        } => Ok(Kind::Move {
             to: variable(steps, name.as_slice()),
             from: register(steps, value),
         }),

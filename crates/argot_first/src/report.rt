@@ -67,12 +67,7 @@ fn push_argument(out: &mut Out, argument: usize) -> Result<(), Memory>
 }
 
 #[tactic(auto, using(crate::proofs::Lines::joined))]
-fn push_line(
-    out: &mut Out,
-    positions: &[Pos],
-    base: usize,
-    flow: &Flow,
-) -> Result<(), Memory>
+fn push_line(out: &mut Out, positions: &[Pos], base: usize, flow: &Flow) -> Result<(), Memory>
     ensures { OnOk result (out.new ≡ out.old ++ line positions.now base flow.now) }
 {
     push_end(out, "flow default: ", positions, base, flow.source)?;
@@ -82,12 +77,7 @@ fn push_line(
 }
 
 /// The report: a line for each flow, and their number.
-pub fn report(
-    alloc: Global,
-    positions: &[Pos],
-    base: usize,
-    flows: &[Flow],
-) -> Result<Out, Memory>
+pub fn report(alloc: Global, positions: &[Pos], base: usize, flows: &[Flow]) -> Result<Out, Memory>
     ensures { IfOk result (λ out. out ≡ whole positions.now base flows.now) }
 {
     let mut out = Out::new(alloc);

@@ -1,13 +1,10 @@
 -- How many functions and steps a file of the first form has, and where its steps stand.
-use Rattle.std.proofs.Common.{◌≡◌, ℕ, zero, suc, ◌+◌, ◌-◌, ◌<◌, ◌≤◌, List, [], ◌∷◌, ◌++◌, Option, Some, None, length, refl, sym, ap, ◌∙◌, subst, arith, add-one, add-zero, zero-add, ◌⊎◌, inl, inr, length-append}
+use Rattle.std.proofs.Common.{◌≡◌, ℕ, zero, suc, ◌+◌, ◌≤◌, List, [], ◌∷◌, ◌++◌, Some, length, ap, subst, arith, length-append}
 use Rattle.std.specs.Prelude.{codes, slice_get}
-use Rattle.argot_first_form.specs.Tree.{Value, Variable, Quoted, Called, Values, no_value, beside, value_text, values_text, more_text, Statement, Define, Assign, Do, statement_text, body_text, Atom, Parameter, Fixed, Item, Blank, Func, Void, items_text, blanks_text, main_text, File, text_of}
-use Rattle.argot_first_form.specs.Words.{HasWords, HaveWords, StatementWords, BodyWords}
-use Rattle.argot_first_form.specs.Steps.{value_size, values_size, value_steps, values_steps, statement_steps, statement_size, body_steps, steps_of, functions_of, offset_of}
+use Rattle.argot_first_form.specs.Tree.{Value, Variable, Quoted, Called, Values, no_value, beside, value_text, values_text, more_text, Statement, Define, Assign, Do, statement_text, body_text, Item, Blank, Func, Void, blanks_text, main_text, File, text_of}
+use Rattle.argot_first_form.specs.Steps.{value_size, values_size, value_steps, values_steps, statement_steps, statement_size, body_steps, steps_of, functions_of}
 use Rattle.argot_first_form.specs.Form.{IsFirstForm}
-use Rattle.argot_first_form.specs.declared.steps.Action.{Action}
 use Rattle.argot_first_form.specs.declared.steps.Step.{Step}
-use Rattle.argot_first_form.proofs.Exact.{length-value_steps, length-values_steps}
 use Rattle.argot_first_form.proofs.Files.{items-longer, length-statement_steps}
 
 mutual

@@ -1,7 +1,6 @@
 -- The text of a value is read as that value.
-use Rattle.std.proofs.Common.{◌≡◌, ℕ, zero, suc, ◌+◌, ◌-◌, ◌<◌, ◌≤◌, List, [], ◌∷◌, ◌++◌, Option, Some, None, Bool, true, false, ◌&&◌, length, take, drop, refl, sym, ap, ◌∙◌, subst, arith, add-one, sub-one, if◌then◌else◌, nat_eq, append_assoc, length-append}
-use Rattle.std.specs.Prelude.{codes}
-use Rattle.std.specs.List.{prefix_len, list_all, starts_with}
+use Rattle.std.proofs.Common.{◌≡◌, ℕ, zero, suc, ◌+◌, ◌-◌, ◌≤◌, List, [], ◌∷◌, ◌++◌, Some, Bool, true, false, ◌&&◌, length, refl, sym, ap, ◌∙◌, arith, nat_eq, append_assoc, length-append}
+use Rattle.std.specs.List.{prefix_len, starts_with}
 use Rattle.std.specs.Char.{is_ascii_alphanumeric, is_ascii_alphabetic}
 use Rattle.std.proofs.lemmas.Bool.Decides.{Decides-eqb}
 use Rattle.std.proofs.lemmas.Bool.{false≢true}
@@ -11,11 +10,10 @@ use Rattle.argot_first_form.specs.declared.steps.Action.TheVariants as actions
 use Rattle.argot_first_form.specs.Bytes.{begins_with_letter}
 use Rattle.argot_first_form.specs.Tree.{Value, Variable, Quoted, Called, Values, no_value, beside, value_text, values_text, more_text}
 use Rattle.argot_first_form.specs.Words.{IsName, IsQuotable, HasWords, HaveWords}
-use Rattle.argot_first_form.specs.Steps.{value_size, values_size, operand_of, operands_of, value_steps, values_steps, step_at}
+use Rattle.argot_first_form.specs.Steps.{value_size, values_size, operand_of, operands_of, value_steps, values_steps}
 use Rattle.argot_first_form.specs.declared.steps.Operand.{Operand}
 use Rattle.argot_first_form.specs.declared.steps.Step.{Step}
-use Rattle.argot_first_form.specs.Front.{Front}
-use Rattle.argot_first_form.specs.Reading.{◌>>=◌, begins, behind, past, name, quoted, value, value_by, named_by, call_by, arguments_by, arguments}
+use Rattle.argot_first_form.specs.Reading.{value, value_by, call_by, arguments_by, arguments}
 use Rattle.argot_first_form.proofs.Pieces.{front, name-exact, name-letter, quoted-exact}
 
 -- how many calls of the reader a value takes within each other

@@ -1,23 +1,18 @@
 -- The text of a file is read as that file's functions and steps.
-use Rattle.std.proofs.Common.{◌≡◌, ℕ, zero, suc, ◌+◌, ◌-◌, ◌<◌, ◌≤◌, List, [], ◌∷◌, ◌++◌, Option, Some, None, Bool, true, false, ◌&&◌, not, length, take, drop, refl, sym, ap, ◌∙◌, subst, arith, add-one, sub-one, if◌then◌else◌, nat_eq, append_assoc, length-append, append-nil}
+use Rattle.std.proofs.Common.{◌≡◌, ℕ, zero, suc, ◌+◌, ◌-◌, ◌<◌, ◌≤◌, List, [], ◌∷◌, ◌++◌, Some, Bool, true, false, length, take, drop, refl, sym, ap, ◌∙◌, arith, append_assoc, length-append, append-nil}
 use Rattle.std.specs.Prelude.{codes}
-use Rattle.std.specs.List.{prefix_len, list_all, starts_with}
-use Rattle.std.specs.Char.{is_ascii_alphanumeric, is_ascii_alphabetic}
+use Rattle.std.specs.List.{prefix_len}
+use Rattle.std.specs.Char.{is_ascii_alphanumeric}
 use Rattle.std.proofs.lemmas.Bool.{false≢true}
 use Rattle.std.proofs.Math.Seq.{take-append_seam}
-use Rattle.argot_first_form.specs.Bytes.{begins_with_letter, is_name, is_reserved}
-use Rattle.argot_first_form.specs.Tree.{Value, Variable, Quoted, Called, Values, no_value, beside, value_text, values_text, more_text, Statement, Define, Assign, Do, statement_text, body_text, Atom, Parameter, Fixed, atom_text, parameters_text, more_parameters_text, Item, Blank, Func, Void, item_text, items_text, blanks_text, main_text, File, text_of}
-use Rattle.argot_first_form.specs.Words.{IsName, IsQuotable, HasWords, HaveWords, StatementWords, BodyWords, AllNames, AtomWords, ItemWords, ItemsWords, FileWords}
-use Rattle.argot_first_form.specs.Steps.{value_size, values_size, operand_of, operands_of, value_steps, values_steps, step_at, statement_steps, statement_size, body_steps, steps_of, functions_of, returned_of}
-use Rattle.argot_first_form.specs.declared.steps.Operand.{Operand}
-use Rattle.argot_first_form.specs.declared.steps.Operand.TheVariants as operands
-use Rattle.argot_first_form.specs.declared.steps.Action.TheVariants as actions
+use Rattle.argot_first_form.specs.Bytes.{is_name, is_reserved}
+use Rattle.argot_first_form.specs.Tree.{Value, Variable, Quoted, Called, Values, no_value, beside, value_text, values_text, more_text, Statement, Define, Assign, Do, statement_text, body_text, Atom, Parameter, Fixed, atom_text, parameters_text, more_parameters_text, Item, Blank, Func, Void, item_text, items_text, blanks_text, File, text_of}
+use Rattle.argot_first_form.specs.Words.{IsName, HasWords, HaveWords, StatementWords, BodyWords, AllNames, AtomWords, ItemWords, ItemsWords, FileWords}
+use Rattle.argot_first_form.specs.Steps.{statement_steps, statement_size, body_steps, steps_of, functions_of, returned_of}
 use Rattle.argot_first_form.specs.declared.functions.Function.{Function}
-use Rattle.argot_first_form.specs.declared.functions.Returned.{Returned}
 use Rattle.argot_first_form.specs.declared.functions.Returned.TheVariants as returns
 use Rattle.argot_first_form.specs.declared.steps.Step.{Step}
-use Rattle.argot_first_form.specs.Front.{Front}
-use Rattle.argot_first_form.specs.Reading.{◌>>=◌, begins, behind, past, name, quoted, value, arguments, statement, statement_behind, body, atom, closed, returned, parameters, all_parameters, function, items, main_line, main_behind, ending, opening, read}
+use Rattle.argot_first_form.specs.Reading.{begins, statement, statement_behind, body, atom, returned, parameters, all_parameters, function, items, main_line, main_behind, ending, read}
 use Rattle.argot_first_form.proofs.Pieces.{front, name-exact, name-letter, name-alphanumeric, quoted-exact, begins-sound, prefix_len-all}
 use Rattle.argot_first_form.proofs.Exact.{value_need, values_need, length-value_steps, length-values_steps, Stops, stops-newline, value-exact, arguments-exact, call-exact, letter-begins}
 

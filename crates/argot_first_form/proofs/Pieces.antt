@@ -1,8 +1,7 @@
 -- What the pieces of reading say: a fixed text, a name, a text in quotes.
-use Rattle.std.proofs.Common.{◌≡◌, ℕ, zero, suc, ◌+◌, ◌-◌, ◌<◌, ◌≤◌, List, [], ◌∷◌, ◌++◌, Option, Some, None, Bool, true, false, cond, ◌&&◌, length, take, drop, refl, sym, ap, ◌∙◌, subst, arith, add-one, sub-one, if◌then◌else◌, ◌⊎◌, inl, inr, ⊎_elim, nat_eq}
-use Rattle.std.specs.Prelude.{codes}
-use Rattle.std.specs.List.{prefix_len, list_all, starts_with}
-use Rattle.std.specs.Char.{is_ascii_alphanumeric, is_ascii_alphabetic}
+use Rattle.std.proofs.Common.{◌≡◌, ℕ, ◌+◌, List, [], ◌∷◌, ◌++◌, Option, Some, None, Bool, true, false, cond, ◌&&◌, length, take, drop, refl, sym, ap, ◌∙◌, arith, if◌then◌else◌, ◌⊎◌, inl, inr}
+use Rattle.std.specs.List.{prefix_len, list_all}
+use Rattle.std.specs.Char.{is_ascii_alphanumeric}
 use Rattle.std.proofs.Math.Seq.{take-append_seam, drop-append_seam}
 use Rattle.std.proofs.lemmas.List.{take-append-drop}
 use Rattle.std.proofs.lemmas.List.Folds.{length-prefix_len}

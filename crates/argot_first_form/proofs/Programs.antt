@@ -1,9 +1,9 @@
 -- A text that is read has the first form, and none that isn't.
-use Rattle.std.proofs.Common.{◌≡◌, ℕ, ◌+◌, ◌<◌, ◌≤◌, List, [], ◌∷◌, Option, Some, None, length, refl, sym, ap, ◌∙◌, subst, arith}
+use Rattle.std.proofs.Common.{◌≡◌, ℕ, ◌<◌, ◌≤◌, List, Option, Some, None, length, sym, ap, ◌∙◌, subst, arith}
 use Rattle.argot_first_form.specs.declared.lines.Program.{Program}
 use Rattle.argot_first_form.specs.declared.functions.Function.{Function}
 use Rattle.argot_first_form.specs.declared.steps.Step.{Step}
-use Rattle.argot_first_form.specs.Tree.{File, text_of}
+use Rattle.argot_first_form.specs.Tree.{File}
 use Rattle.argot_first_form.specs.Steps.{functions_of, steps_of}
 use Rattle.argot_first_form.specs.Form.{IsFirstForm, HasFirstForm, FunctionsFit, StepsFit, BracketsFit}
 use Rattle.argot_first_form.specs.Reading.{read}
@@ -63,3 +63,10 @@ found bytes p e short brackets functions steps =
       functions = f;
       steps = t;
     }
+
+-- every tree with this text gives the same functions and steps
+pub same : (bytes : List ℕ) (p : Program) → IsProgram bytes p → (file : File) → IsFirstForm file bytes → (p.functions ≡ functions_of file.items) × (p.steps ≡ steps_of file)
+same bytes p h file form =
+    let own : ◌≡◌ {A = Option Parts} (Some (functions_of h.file.items, steps_of h.file)) (Some (functions_of file.items, steps_of file)) = sym (read-of bytes (h.file, h.form)) ∙ read-of bytes (file, form) in
+    let q : ◌≡◌ {A = Parts} (functions_of h.file.items, steps_of h.file) (functions_of file.items, steps_of file) = cc own in
+    (h.functions ∙ ap (λ x. x.0) q, h.steps ∙ ap (λ x. x.1) q)

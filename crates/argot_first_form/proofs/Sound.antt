@@ -1,15 +1,14 @@
 -- What is read is the text of something.
-use Rattle.std.proofs.Common.{◌≡◌, ℕ, zero, suc, ◌+◌, ◌-◌, ◌<◌, ◌≤◌, List, [], ◌∷◌, ◌++◌, Option, Some, None, Bool, true, false, ◌&&◌, not, length, take, drop, refl, sym, ap, ◌∙◌, subst, arith, add-one, sub-one, if◌then◌else◌, ◌⊎◌, inl, inr, ⊎_elim, nat_eq}
+use Rattle.std.proofs.Common.{◌≡◌, ℕ, zero, suc, List, [], ◌∷◌, ◌++◌, Option, Some, None, Bool, true, false, length, drop, refl, sym, ap, ◌∙◌, if◌then◌else◌, ◌⊎◌, inl, inr, nat_eq}
 use Rattle.std.specs.Prelude.{codes}
 use Rattle.std.specs.List.{list_all}
-use Rattle.argot_first_form.specs.Tree.{Value, Variable, Quoted, Called, Values, no_value, beside, value_text, values_text, more_text, Statement, Define, Assign, Do, statement_text, body_text, Atom, Parameter, Fixed, atom_text, parameters_text, more_parameters_text, Item, Blank, Func, Void, item_text, items_text, blanks_text, main_text, File, text_of}
-use Rattle.argot_first_form.specs.Words.{IsName, IsQuotable, HasWords, HaveWords, StatementWords, BodyWords, AllNames, AtomWords, ItemWords, ItemsWords, FileWords}
+use Rattle.argot_first_form.specs.Tree.{Value, Variable, Quoted, Called, Values, no_value, beside, value_text, values_text, more_text, Statement, Define, Assign, Do, statement_text, body_text, Atom, Parameter, Fixed, atom_text, parameters_text, more_parameters_text, Item, Blank, Func, Void, item_text, items_text, blanks_text, File, text_of}
+use Rattle.argot_first_form.specs.Words.{IsName, HasWords, HaveWords, StatementWords, BodyWords, AllNames, AtomWords, ItemWords, ItemsWords, FileWords}
 use Rattle.argot_first_form.specs.declared.steps.Operand.{Operand}
 use Rattle.argot_first_form.specs.declared.steps.Operand.TheVariants as operands
 use Rattle.argot_first_form.specs.declared.steps.Action.TheVariants as actions
 use Rattle.argot_first_form.specs.declared.functions.Function.{Function}
 use Rattle.argot_first_form.specs.declared.functions.Returned.{Returned}
-use Rattle.argot_first_form.specs.declared.steps.Action.{Action}
 use Rattle.argot_first_form.specs.declared.functions.Returned.TheVariants as returns
 use Rattle.std.proofs.lemmas.Bool.Decides.{Decides-eqb}
 use Rattle.argot_first_form.specs.declared.steps.Step.{Step}

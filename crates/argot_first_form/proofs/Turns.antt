@@ -1,10 +1,10 @@
 -- One step of reading.
-use Rattle.std.proofs.Common.{◌≡◌, ℕ, zero, suc, ◌+◌, ◌-◌, ◌<◌, ◌≤◌, List, [], ◌∷◌, ◌++◌, Option, Some, None, refl, arith, add-one, sub-one, if◌then◌else◌}
+use Rattle.std.proofs.Common.{◌≡◌, ℕ, zero, suc, ◌-◌, ◌<◌, ◌≤◌, List, [], ◌∷◌, ◌++◌, Some, None, refl, arith, sub-one, if◌then◌else◌}
 use Rattle.std.specs.Prelude.{codes}
 use Rattle.argot_first_form.specs.declared.steps.Operand.{Operand}
 use Rattle.argot_first_form.specs.Front.{Front}
 use Rattle.argot_first_form.specs.declared.functions.Function.{Function}
-use Rattle.argot_first_form.specs.Reading.{Answer, ◌>>=◌, begins, behind, past, name, value, value_by, arguments, statement, body, parameters, function, items, main_line}
+use Rattle.argot_first_form.specs.Reading.{◌>>=◌, begins, behind, past, name, value, value_by, arguments, statement, body, parameters, function, items, main_line}
 
 pub value_none : (f : Front) → value 0 f ≡ None
 unfolding value

@@ -1,5 +1,5 @@
 -- The conditions on main's steps, joined into one test for each step.
-use Rattle.std.specs.Prelude.{List, [], ◌∷◌, Bool, ◌&&◌}
+use Rattle.std.specs.Prelude.{List, Bool, ◌&&◌}
 use Rattle.std.specs.List.{list_all}
 use Rattle.argot_first_form.specs.declared.steps.Action.{Action}
 use Rattle.argot_first_form.specs.declared.steps.Step.{Step}

@@ -1,5 +1,5 @@
 -- The steps of main: one for each text in quotes, each call and each assignment, operands first.
-use Rattle.std.specs.Prelude.{ℕ, zero, suc, ◌+◌, ◌-◌, List, [], ◌∷◌, ◌++◌, length, codes}
+use Rattle.std.specs.Prelude.{ℕ, ◌+◌, ◌-◌, List, [], ◌∷◌, ◌++◌, length, codes}
 use Rattle.argot_first_form.specs.declared.steps.Operand.{Operand}
 use Rattle.argot_first_form.specs.declared.steps.Operand.TheVariants as operands
 use Rattle.argot_first_form.specs.declared.steps.Action.{Action}
@@ -8,7 +8,7 @@ use Rattle.argot_first_form.specs.declared.steps.Step.{Step}
 use Rattle.argot_first_form.specs.declared.functions.Function.{Function}
 use Rattle.argot_first_form.specs.declared.functions.Returned.{Returned}
 use Rattle.argot_first_form.specs.declared.functions.Returned.TheVariants as returns
-use Rattle.argot_first_form.specs.Tree.{Value, Variable, Quoted, Called, Values, no_value, beside, Statement, Define, Assign, Do, Atom, Parameter, Fixed, Item, Blank, Func, Void, File, value_text, values_text, more_text, statement_text, body_text, blanks_text, text_of}
+use Rattle.argot_first_form.specs.Tree.{Value, Variable, Quoted, Called, Values, no_value, beside, Statement, Define, Assign, Do, Atom, Parameter, Fixed, Item, Blank, Func, Void, File, value_text, more_text, statement_text, body_text, blanks_text, text_of}
 
 -- how many steps a value has
 abbrev mutual

@@ -1,4 +1,4 @@
-use Rattle.std.proofs.Common.{◌≡◌, []}
+use Rattle.std.proofs.Common.{◌≡◌}
 use Rattle.argot_first_form.specs.Reading.{body}
 use Rattle.argot_first_form.proofs.statements.body.Given as goal
 
