@@ -11,12 +11,12 @@ status_unbounded zero e = cc e
 status_unbounded (suc n) e = cc e
 
 folder_unbounded : {dir : List ℕ} {outside : Outside} (answer : Answer) → DueToFolder dir outside answer → answer.status ≡ Bound → ⊥
-folder_unbounded _ (no_source _ _) e = cc e
-folder_unbounded _ (other_files _ _) e = cc e
-folder_unbounded _ (other_text _ _) e = cc e
-folder_unbounded _ (analysed count _ _ _) e = status_unbounded count e
+folder_unbounded _ (no_source _ _ _ _) e = cc e
+folder_unbounded _ (other_files _ _ _ _) e = cc e
+folder_unbounded _ (other_text _ _ _ _ _ _ _) e = cc e
+folder_unbounded _ (analysed _ _ count _ _ _ _ _ _) e = status_unbounded count e
 folder_unbounded _ (not_listed _ _) e = cc e
-folder_unbounded _ (not_read _ _ _) e = cc e
+folder_unbounded _ (not_read _ _ _ _ _) e = cc e
 
 due_unbounded : {words : List (List ℕ)} {outside : Outside} (answer : Answer) → Due words outside answer → answer.status ≡ Bound → ⊥
 due_unbounded _ (wrong_words _ _) e = cc e

@@ -1,12 +1,11 @@
 -- The answers that are due, from what the calls on the files say.
 use Rattle.std.proofs.Common.{◌≡◌, ℕ, List, ◌++◌, Option, Some, None, Result, Ok, Err, sym, ◌∙◌, ap, subst, codes, IfOk, IfSome}
-use Rattle.std.proofs.lemmas.List.Sorted.{list_any-IsPermutation}
 use Rattle.argot_io.specs.Faults.{Rose}
-use Rattle.argot_io.specs.Told.{Entry, listing, content, ListsTold, ReadsTold}
+use Rattle.argot_io.specs.Told.{Entry, ListsTold, ReadsTold}
 use Rattle.argot_io.specs.declared.files.FilesCall.TheVariants.{Reading}
 use Rattle.argot_text.specs.declared.memory.Memory.{Memory}
-use Rattle.argot_run.specs.Due.{Outside, Due, DueToFolder, MainIs, main_path, not_read, of_folder}
-use Rattle.argot_run.specs.Listed.{HasNoSource, HasOthers, HasMainAlone, is_source, is_other_source}
+use Rattle.argot_run.specs.Due.{Outside, Due, DueToFolder, main_path, not_read, of_folder}
+use Rattle.argot_run.specs.Listed.{HasMainAlone}
 use Rattle.argot_run.specs.Words.{asked}
 use Rattle.argot_run.specs.declared.answer.Answer.{Answer}
 use Rattle.argot_run.specs.declared.status.Status.{Status}
@@ -17,34 +16,19 @@ pub when_ok : (P : Answer → Type 0) (r : Result Answer Memory) (a : Answer) �
 when_ok P (Ok x) a same p = subst P (sym same) p
 when_ok P (Err _) a same p = tt
 
-pub no_source_told : (told : Option (List Entry)) (dir : List ℕ) (texts : List (List ℕ)) → ListsTold told dir texts → HasNoSource texts → IfSome told (λ entries. HasNoSource (listing dir entries))
-no_source_told None dir texts listed empty = tt
-no_source_told (Some entries) dir texts listed empty = list_any-IsPermutation is_source _ _ listed.same ∙ empty
-
-pub others_told : (told : Option (List Entry)) (dir : List ℕ) (texts : List (List ℕ)) → ListsTold told dir texts → HasOthers texts → IfSome told (λ entries. HasOthers (listing dir entries))
-others_told None dir texts listed others = tt
-others_told (Some entries) dir texts listed others = list_any-IsPermutation is_other_source _ _ listed.same ∙ others
-
-pub main_told : (told : Option (List Entry)) (dir : List ℕ) (texts : List (List ℕ)) → ListsTold told dir texts → HasMainAlone texts → IfSome told (λ entries. HasMainAlone (listing dir entries))
-main_told None dir texts listed main = tt
-main_told (Some entries) dir texts listed main =
-    (list_any-IsPermutation is_source _ _ listed.same ∙ main.0, list_any-IsPermutation is_other_source _ _ listed.same ∙ main.1)
-
-pub read_told :
-    (P : List ℕ → Type 0) (told : Option (List Entry)) (dir path bytes : List ℕ) → path ≡ main_path dir →
-    IfSome told (λ entries. HasMainAlone (listing dir entries)) → ReadsTold told path bytes → P bytes →
-    IfSome told (λ entries. HasMainAlone (listing dir entries) × MainIs P dir entries)
-read_told P None dir path bytes same main read p = tt
-read_told P (Some entries) dir path bytes same main read p =
-    (main, (bytes, subst (λ (at : List ℕ). content at entries ≡ Some bytes) same read, p))
+-- the bytes that were read at the path of the main file
+pub read_main :
+    (told : Option (List Entry)) (dir path bytes : List ℕ) → path ≡ main_path dir → ReadsTold told path bytes →
+    ReadsTold told (main_path dir) bytes
+read_main told dir path bytes same read = subst (λ (at : List ℕ). ReadsTold told at bytes) same read
 
 pub read_failed :
-    (dir path : List ℕ) (outside : Outside) → path ≡ main_path dir → Rose outside.before outside.now × (outside.last ≡ Some (Reading path)) →
-    IfSome outside.told (λ entries. HasMainAlone (listing dir entries)) →
+    (dir path : List ℕ) (paths : List (List ℕ)) (outside : Outside) → path ≡ main_path dir →
+    Rose outside.before outside.now × (outside.last ≡ Some (Reading path)) → ListsTold outside.told dir paths → HasMainAlone paths →
     DueToFolder dir outside (record { status = ReadFault; text = codes "argot: cannot read " ++ path ++ codes "\n" })
-read_failed dir path outside same cause told =
+read_failed dir path paths outside same cause listed alone =
     subst (λ (at : List ℕ). DueToFolder dir outside (record { status = ReadFault; text = codes "argot: cannot read " ++ at ++ codes "\n" })) (sym same)
-    (not_read cause.0 (cause.1 ∙ ap (λ (at : List ℕ). Some (Reading at)) same) told)
+    (not_read paths cause.0 (cause.1 ∙ ap (λ (at : List ℕ). Some (Reading at)) same) listed alone)
 
 -- what is due to the folder that the words ask for is due to the words
 pub when_asked :

@@ -1,7 +1,7 @@
 -- Which answer is due to the words and the files.
-use Rattle.std.specs.Prelude.{◌≡◌, ℕ, zero, suc, List, ◌++◌, codes, Option, Some, None, IfSome}
+use Rattle.std.specs.Prelude.{◌≡◌, ℕ, zero, suc, List, ◌++◌, codes, Option, Some, None}
 use Rattle.argot_io.specs.Faults.{Rose}
-use Rattle.argot_io.specs.Told.{Entry, listing, content}
+use Rattle.argot_io.specs.Told.{Entry, ListsTold, ReadsTold}
 use Rattle.argot_io.specs.declared.files.FilesCall.{FilesCall}
 use Rattle.argot_io.specs.declared.files.FilesCall.TheVariants.{Listing, Reading}
 use Rattle.argot_first_form.specs.Form.{HasFirstForm}
@@ -22,10 +22,6 @@ status_of (suc n) = Found
 abbrev pub main_path : List ℕ → List ℕ
 main_path dir = dir ++ codes "/main.go"
 
--- the files tell bytes of the main file, and these have that property
-abbrev pub MainIs : (List ℕ → Type 0) → List ℕ → List Entry → Type 0
-MainIs P dir entries = (bytes : List ℕ) × (content (main_path dir) entries ≡ Some bytes) × P bytes
-
 -- what the files have seen: what they tell, the count of faults before and now, the call that failed last
 pub record Outside : Type 0 where
   pub told : Option (List Entry)
@@ -37,35 +33,35 @@ pub record Outside : Type 0 where
 abbrev pub IsCalm : Outside → Type 0
 IsCalm outside = outside.now ≡ outside.before
 
--- the answer that is due to a folder; what it says of the files is said where they tell
+-- the answer that is due to a folder, by the paths that it lists and the bytes of its main file; where the files tell, these are what they tell
 pub data DueToFolder (dir : List ℕ) (outside : Outside) : Answer → Type 0 where
   -- the folder has no source
   no_source :
-      IsCalm outside → IfSome outside.told (λ entries. HasNoSource (listing dir entries)) →
-      DueToFolder dir outside (record { status = Refused; text = no_main_line })
+      (paths : List (List ℕ)) → IsCalm outside → ListsTold outside.told dir paths → HasNoSource paths
+      → DueToFolder dir outside (record { status = Refused; text = no_main_line })
   -- its sources aren't `main.go` alone
   other_files :
-      IsCalm outside → IfSome outside.told (λ entries. HasOthers (listing dir entries)) →
-      DueToFolder dir outside (record { status = Unsupported; text = not_first_form_line })
+      (paths : List (List ℕ)) → IsCalm outside → ListsTold outside.told dir paths → HasOthers paths
+      → DueToFolder dir outside (record { status = Unsupported; text = not_first_form_line })
   -- its `main.go` hasn't the first form
   other_text :
-      IsCalm outside →
-      IfSome outside.told (λ entries. HasMainAlone (listing dir entries) × MainIs (λ bytes. ¬ HasFirstForm bytes) dir entries) →
-      DueToFolder dir outside (record { status = Unsupported; text = not_first_form_line })
+      (paths : List (List ℕ)) (bytes : List ℕ) → IsCalm outside → ListsTold outside.told dir paths → HasMainAlone paths
+      → ReadsTold outside.told (main_path dir) bytes → (HasFirstForm bytes → ⊥)
+      → DueToFolder dir outside (record { status = Unsupported; text = not_first_form_line })
   -- it has, and this is the report of its flows
   analysed :
-      (count : ℕ) (text : List ℕ) → IsCalm outside
-      → IfSome outside.told (λ entries. HasMainAlone (listing dir entries) × MainIs (λ bytes. IsReport bytes count text) dir entries)
+      (paths : List (List ℕ)) (bytes : List ℕ) (count : ℕ) (text : List ℕ) → IsCalm outside → ListsTold outside.told dir paths → HasMainAlone paths
+      → ReadsTold outside.told (main_path dir) bytes → IsReport bytes count text
       → DueToFolder dir outside (record { status = status_of count; text = text })
   -- the folder couldn't be listed
   not_listed :
-      Rose outside.before outside.now → outside.last ≡ Some (Listing dir) →
-      DueToFolder dir outside (record { status = ReadFault; text = cannot_list_line dir })
+      Rose outside.before outside.now → outside.last ≡ Some (Listing dir)
+      → DueToFolder dir outside (record { status = ReadFault; text = cannot_list_line dir })
   -- its `main.go` couldn't be read
   not_read :
-      Rose outside.before outside.now → outside.last ≡ Some (Reading (main_path dir)) →
-      IfSome outside.told (λ entries. HasMainAlone (listing dir entries)) →
-      DueToFolder dir outside (record { status = ReadFault; text = cannot_read_line (main_path dir) })
+      (paths : List (List ℕ)) → Rose outside.before outside.now → outside.last ≡ Some (Reading (main_path dir))
+      → ListsTold outside.told dir paths → HasMainAlone paths
+      → DueToFolder dir outside (record { status = ReadFault; text = cannot_read_line (main_path dir) })
 
 -- the answer that is due to the words
 pub data Due (words : List (List ℕ)) (outside : Outside) : Answer → Type 0 where

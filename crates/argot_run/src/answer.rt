@@ -1,6 +1,6 @@
 // The answer that is due, before anything is written.
-ghost use Rattle.std.specs.Prelude.{◌≡◌, ◌++◌, IfOk, IfSome, codes, string_bytes};
-ghost use Rattle.argot_io.specs.Told.{listing};
+ghost use Rattle.std.specs.Prelude.{◌≡◌, ◌++◌, IfOk, codes, string_bytes};
+ghost use Rattle.argot_io.specs.Told.{ListsTold};
 ghost use Rattle.argot_run.specs.Due.{Due, DueToFolder, main_path, status_of};
 ghost use Rattle.argot_run.specs.Listed.{HasMainAlone};
 
@@ -49,13 +49,19 @@ fn answer_to_folder<F: Files>(alloc: Global, dir: &str, files: &mut F) -> Result
     match sources_of(&paths) {
         Sources::None => fixed(alloc, Status::Refused, NO_MAIN),
         Sources::Others => fixed(alloc, Status::Unsupported, NOT_FIRST_FORM),
-        Sources::MainAlone => answer_to_main(alloc, dir, files),
+        Sources::MainAlone => answer_to_main(alloc, dir, &paths, files),
     }
 }
 
 // The answer to a folder whose only source is `main.go`.
-fn answer_to_main<F: Files>(alloc: Global, dir: &str, files: &mut F) -> Result<Answer, Memory>
-    requires { IfSome (F.told files.old) (λ entries. HasMainAlone (listing dir.now entries)) }
+fn answer_to_main<F: Files>(
+    alloc: Global,
+    dir: &str,
+    _listed: &Texts,
+    files: &mut F,
+) -> Result<Answer, Memory>
+    requires listed { ListsTold (F.told files.old) dir.now _listed.now }
+    requires alone { HasMainAlone _listed.now }
     ensures { IfOk result (DueToFolder dir.now
         (record { told = F.told files.old; before = F.faults files.old; now = F.faults files.new; last = F.last files.new })) }
 {

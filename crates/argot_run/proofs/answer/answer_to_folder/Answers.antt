@@ -1,8 +1,5 @@
-use Rattle.std.proofs.Common.{sym, subst, IfSome}
-use Rattle.argot_io.specs.Told.{listing}
 use Rattle.argot_run.specs.Due.{no_source, other_files, not_listed}
-use Rattle.argot_run.specs.Listed.{HasMainAlone}
-use Rattle.argot_run.proofs.Owed.{when_ok, no_source_told, others_told, main_told}
+use Rattle.argot_run.proofs.Owed.{when_ok}
 use Rattle.argot_run.proofs.answer.answer_to_folder.Goals as goal
 
 pub returns-in-Err-Failed : goal.returns-in-Err-Failed
@@ -12,15 +9,9 @@ returns-in-Err-Failed g c =
 
 pub returns-in-None : goal.returns-in-None
 returns-in-None g c =
-    when_ok _ c.fixed.result _ c.fixed.ensures
-    (no_source c.in-Ok.ensures.cause.0 (no_source_told _ _ _ c.in-Ok.ensures.listed c.in-None.ensures))
+    when_ok _ c.fixed.result _ c.fixed.ensures (no_source _ c.in-Ok.ensures.cause.0 c.in-Ok.ensures.listed c.in-None.ensures)
 
 pub returns-in-Others : goal.returns-in-Others
 returns-in-Others g c =
     when_ok _ c.fixed-in-Others.result _ c.fixed-in-Others.ensures
-    (other_files c.in-Ok.ensures.cause.0 (others_told _ _ _ c.in-Ok.ensures.listed c.in-Others.ensures))
-
-pub answer_to_main-requires : goal.answer_to_main-requires
-answer_to_main-requires g c =
-    subst (λ told. IfSome told (λ entries. HasMainAlone (listing c.args.dir.now entries))) (sym c.in-Ok.ensures.told)
-    (main_told _ _ _ c.in-Ok.ensures.listed c.in-MainAlone.ensures)
+    (other_files _ c.in-Ok.ensures.cause.0 c.in-Ok.ensures.listed c.in-Others.ensures)
