@@ -6,3 +6,4 @@ pub mod Sound
 pub mod Checking
 pub mod Programs
 pub mod Bounds
+pub mod Reserved

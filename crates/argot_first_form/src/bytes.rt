@@ -133,7 +133,6 @@ fn is_among(name: &[u8], words: &[&str]) -> bool
     words.iter().any(|word| word.as_bytes() == name)
 }
 
-#[tactic(auto, unfolding(crate::specs::Bytes::is_reserved))]
 fn is_reserved(name: &[u8]) -> bool
     ensures { result ≡ is_reserved name.now }
 {
