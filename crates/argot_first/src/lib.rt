@@ -13,3 +13,6 @@ mod report;
 pub use analyse::analyse_first;
 pub use found::{Answer, Flow};
 pub use kinds::Kind;
+
+#[cfg(test)]
+mod tests;
