@@ -1,9 +1,7 @@
 -- The grammar: which trees spell the tokens from one place up to another, one case for each production
 -- (Go specification: Types, Declarations and scope, Expressions, Statements, Packages).
-use Rattle.std.specs.Prelude.{◌≡◌, ℕ, ◌+◌, ◌≤◌, List, Bool, true, false}
-use Rattle.argot_tree.specs.declared.keyword.Keyword.{Keyword}
+use Rattle.std.specs.Prelude.{ℕ, ◌+◌, ◌≤◌, List, Bool, true, false}
 use Rattle.argot_tree.specs.declared.keyword.Keyword.TheVariants as words
-use Rattle.argot_tree.specs.declared.mark.Mark.{Mark}
 use Rattle.argot_tree.specs.declared.mark.Mark.TheVariants as marks
 use Rattle.argot_tree.specs.declared.node_kind.NodeKind.{NodeKind}
 use Rattle.argot_tree.specs.declared.node_kind.NodeKind.TheVariants as nodes

@@ -11,3 +11,4 @@ pub mod Forests
 pub mod TokensAt
 pub mod Grammar
 pub mod Trees
+pub mod Nesting
