@@ -7,3 +7,8 @@ pub mod Marks
 pub mod Comments
 pub mod Pieces
 pub mod Text
+pub mod Forests
+pub mod TokensAt
+pub mod Grammar
+pub mod Trees
+pub mod Nesting

@@ -1,0 +1,17 @@
+//! Reads the parts of a file: so far what the reading rests on.
+//!
+//! Nodes are written behind their children, each with the size of its tree, and `link` makes of them the list in
+//! preorder with first children and next siblings that `Forests.antt` of argot_tree defines. `first_too_deep` finds the
+//! first token that is nested deeper than the parser goes. Both are one pass over a list.
+#![tactic(auto)]
+
+mod linking;
+mod nesting;
+mod post;
+
+pub use linking::link;
+pub use nesting::first_too_deep;
+pub use post::Post;
+
+#[cfg(test)]
+mod tests;

@@ -1,0 +1,71 @@
+//! A window for maintainers: prints what a stage of argot made of a file.
+//!
+//! `argot_show tokens FILE` prints for each token its number, kind, start, end and text, and then the offsets of the
+//! directives; with `-count` before FILE the number of tokens alone. `tokens.rt` says what the output is. It writes as it
+//! goes: beside the file and its tokens it holds one stretch of lines.
+#![tactic(auto)]
+
+mod lines;
+mod status;
+mod tokens;
+mod words;
+
+use crate::status::Status;
+use crate::tokens::show_tokens;
+use crate::words::request_of;
+use argot_io::{Files, RealFiles, Sink, StdSink, write_all};
+use argot_text::{Memory, Text, Texts};
+use std::alloc::Global;
+use std::env;
+use std::io::ErrorKind;
+use std::process::ExitCode;
+use std::rt::Env;
+
+fn main(rt: HostRuntime) -> ExitCode {
+    let alloc = rt.alloc();
+    let status = match words_of(&rt, alloc) {
+        Ok(words) => {
+            let mut files = RealFiles::new(&rt);
+            let mut out = StdSink::new(rt.stdout());
+            let mut err = StdSink::new(rt.stderr());
+            show(alloc, &words, &mut files, &mut out, &mut err)
+        }
+        Err(_) => Status::Memory,
+    };
+    ExitCode::from(status.code())
+}
+
+// What the words ask for.
+fn show<F: Files, O: Sink, E: Sink>(
+    alloc: Global,
+    words: &Texts,
+    files: &mut F,
+    out: &mut O,
+    err: &mut E,
+) -> Status {
+    match request_of(words) {
+        Some(request) => {
+            let path = words.get(request.file).as_str();
+            show_tokens(alloc, path, request.count, files, out, err)
+        }
+        None => match write_all(err, b"argot_show: usage: argot_show tokens [-count] FILE\n") {
+            Ok(()) => Status::Refused,
+            Err(_) => Status::WriteFault,
+        },
+    }
+}
+
+// The words after the program's own name. Words that can't be had as text are no request.
+fn words_of<R: Env + AllocGlobal>(rt: &R, alloc: Global) -> Result<Texts, Memory> {
+    let mut words = Texts::new(alloc);
+    match env::args(rt) {
+        Ok(args) => {
+            for word in args.skip(1) {
+                words.push(Text::from_string(word))?;
+            }
+            Ok(words)
+        }
+        Err(error) if error.kind() == ErrorKind::OutOfMemory => Err(Memory),
+        Err(_) => Ok(words),
+    }
+}
