@@ -1,2 +1,6 @@
 pub mod Maps
 pub mod Flowing
+pub mod Fitting
+pub mod Well
+pub mod Fits
+pub mod Conclusion

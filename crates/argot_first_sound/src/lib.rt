@@ -1,16 +1,28 @@
-//! What the answer for a program of the first form means for its runs: the flows of the whole program are
-//! flows of its code, and where the program is well formed each leak of a run is one of them. The statements
-//! stand in `specs/Laws.antt`, and are the contracts of functions that do nothing when they run.
+//! What the answer for a program of the first form means for its runs, whatever order they take: its code is a
+//! well-formed program of plain code, each leak of a run is a flow, and so no run of a clean program leaks.
+//! The statements stand in `specs/Laws.antt`, over the program of `specs/Whole.antt`, and are the contracts of
+//! functions that do nothing when they run. The program's clean answer rests on `no_run_leaks`.
 #![tactic(auto)]
 
-ghost use Rattle.argot_first_sound.specs.Laws.{EachLeakIsAFlow, FlowsAreFlows};
+ghost use Rattle.argot_first_sound.specs.Laws.{CleanMeansNoLeak, EachLeakIsAFlow, FlowsAreFlows, IsWellFormed, NoRunLeaks};
+
+/// A program of the first form is well formed.
+pub fn is_well_formed()
+    ensures { IsWellFormed }
+{}
 
 /// Each flow of the whole program is a flow of its code.
 pub fn flows_are_flows()
     ensures { FlowsAreFlows }
 {}
 
-/// Each leak of a run is a flow of the code, where the whole program is well formed.
+/// Each leak of a run of a program of the first form is a flow.
 pub fn each_leak_is_a_flow()
     ensures { EachLeakIsAFlow }
+{}
+
+/// Where nothing flows in a program of the first form, or its report has no flow, no run of it leaks.
+pub fn no_run_leaks()
+    ensures flowless { NoRunLeaks }
+    ensures clean { CleanMeansNoLeak }
 {}
