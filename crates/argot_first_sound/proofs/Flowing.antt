@@ -235,17 +235,17 @@ module _ (code : First.Code) where
   after-none [] calls h = cc h
   after-none (k ∷ ks) calls h = cc h
 
-  joins-return : (s k : ℕ) (a b : Node) (c o : ℕ) (os : List ℕ) (t : Bool) → nat_eq o c ≡ t → Old.Joins code s k a.place a.index (o ∷ os) → EdgeOf (Returns c) a.place a.index b.place b.index → (ks : List EdgeKind) (calls : List ℕ) → after_all ks (if t then Some os else None) ≡ Some calls → ((done : List ℕ) → Old.Joins code s k b.place b.index done → after_all ks (Some done) ≡ Some calls → Old.Joins code s k b.place b.index done) → (os' : List ℕ) × Old.Joins code s k b.place b.index os' × (after_all ks (Some os') ≡ Some calls)
-  joins-return s k a b c o os true e j edge ks calls h keep =
+  joins-return : (s k : ℕ) (a b : Node) (c o : ℕ) (os : List ℕ) (t : Bool) → nat_eq o c ≡ t → Old.Joins code s k a.place a.index (o ∷ os) → EdgeOf (Returns c) a.place a.index b.place b.index → (ks : List EdgeKind) (calls : List ℕ) → after_all ks (if t then Some os else None) ≡ Some calls → (os' : List ℕ) × Old.Joins code s k b.place b.index os' × (after_all ks (Some os') ≡ Some calls)
+  joins-return s k a b c o os true e j edge ks calls h =
       let same : o ≡ c = eqb-true o c e in
       (os, Old.return_last (subst (λ x. Old.Joins code s k a.place a.index (x ∷ os)) same j) edge, h)
-  joins-return s k a b c o os false e j edge ks calls h keep = absurd (after-none ks calls h)
+  joins-return s k a b c o os false e j edge ks calls h = absurd (after-none ks calls h)
 
   step-joins : (s k : ℕ) (a b : Node) (kind : EdgeKind) (held : List ℕ) → Old.Joins code s k a.place a.index held → EdgeOf kind a.place a.index b.place b.index → (ks : List EdgeKind) (calls : List ℕ) → after_all ks (after kind held) ≡ Some calls → (os : List ℕ) × Old.Joins code s k b.place b.index os × (after_all ks (Some os) ≡ Some calls)
   step-joins s k a b Plain held j e ks calls h = (held, Old.plain j e, h)
   step-joins s k a b (Enters c) held j e ks calls h = (c ∷ held, Old.call j e, h)
   step-joins s k a b (Returns c) [] j e ks calls h = ([], Old.return_free j e, h)
-  step-joins s k a b (Returns c) (o ∷ os) j e ks calls h = joins-return s k a b c o os (nat_eq o c) refl j e ks calls h (λ d x y. x)
+  step-joins s k a b (Returns c) (o ∷ os) j e ks calls h = joins-return s k a b c o os (nat_eq o c) refl j e ks calls h
   step-joins s k a b Reset held j e ks calls h = absurd e
 
   leads-back : (s k : ℕ) {a b : Node} {ks : List EdgeKind} → Leads (IsEdge (whole_of code) (asked code)) a ks b → (held calls : List ℕ) → Old.Joins code s k a.place a.index held → after_all ks (Some held) ≡ Some calls → Old.Joins code s k b.place b.index calls
@@ -273,9 +273,9 @@ module _ (code : First.Code) where
   none-counts true ns h = cc h
   none-counts false ns h = cc h
 
-  counted-by : (test : First.Plain → Bool) (i g : ℕ) (o : Option First.Plain) → slice_get code.functions g ≡ o → slice_get (map whole_function code.functions) g ≡ slice_get (map whole_function code.functions) g → counts (whole_of code) i g (numbers_of test 0 code.functions) ≡ true → Counted i g test
-  counted-by test i g (Some f) e same h = record { function = f; is = e; counted = sym (counts-as test i g f e) ∙ h }
-  counted-by test i g None e same h = absurd (none-counts (not (is_left_out (whole_of code) i)) (numbers_of test 0 code.functions) (subst (λ o. (not (is_left_out (whole_of code) i) && is_among (counted_as o g) (numbers_of test 0 code.functions)) ≡ true) (map-none code.functions g e) h))
+  counted-by : (test : First.Plain → Bool) (i g : ℕ) (o : Option First.Plain) → slice_get code.functions g ≡ o → counts (whole_of code) i g (numbers_of test 0 code.functions) ≡ true → Counted i g test
+  counted-by test i g (Some f) e h = record { function = f; is = e; counted = sym (counts-as test i g f e) ∙ h }
+  counted-by test i g None e h = absurd (none-counts (not (is_left_out (whole_of code) i)) (numbers_of test 0 code.functions) (subst (λ o. (not (is_left_out (whole_of code) i) && is_among (counted_as o g) (numbers_of test 0 code.functions)) ≡ true) (map-none code.functions g e) h))
     where
       map-none : (fs : List First.Plain) (g : ℕ) → slice_get fs g ≡ None → slice_get (map whole_function fs) g ≡ None
       map-none [] g e = refl
@@ -283,7 +283,7 @@ module _ (code : First.Code) where
       map-none (f ∷ fs) (suc g) e = map-none fs g e
 
   counted : (test : First.Plain → Bool) (i g : ℕ) → counts (whole_of code) i g (numbers_of test 0 code.functions) ≡ true → Counted i g test
-  counted test i g h = counted-by test i g (slice_get code.functions g) refl refl h
+  counted test i g h = counted-by test i g (slice_get code.functions g) refl h
 
   source-back : (s : ℕ) (m : Mark) → IsSource (whole_of code) (asked code) s m → Begins s m
   source-back s m (by_call {k = k} to args callee g takes at targets source within) =

@@ -2,5 +2,6 @@ pub mod Maps
 pub mod Flowing
 pub mod Fitting
 pub mod Well
+pub mod Operands
 pub mod Fits
 pub mod Conclusion

@@ -10,7 +10,6 @@ use Rattle.argot_first.specs.declared.kinds.Kind.TheVariants as few
 use Rattle.argot_first.specs.Code as First
 use Rattle.argot_first.specs.Flows as Old
 use Rattle.argot_plain.specs.Lists.{In, here, there, IsDistinct, below}
-use Rattle.argot_plain.specs.Code as Plain
 use Rattle.argot_plain.specs.Code.{IsAt, IsFunction, IsEntry, IsIn, Next, Successor, successor, Hands, by_call, by_go, by_defer, leaves, leaves_in, defined, reads}
 use Rattle.argot_plain.specs.WellFormed.{WellFormed, FitsStatic, reference_registers, HasRanges, HasNumbers, HasRegisters, ReadsBehindExit, RunsAtExit, LeavesAtLeave}
 use Rattle.argot_plain.specs.declared.functions.Function.{Function}
@@ -163,9 +162,6 @@ next-one code f i j (Panic from) l g n = absurd g
 next-one code f i j (Passed to callee) l g n = absurd g
 
 module _ (code : First.Code) (ok : Fitting code) where
-  abbrev p : Plain.Code
-  p = whole_of code
-
   places : length (whole_of code).instrs ≡ length code.instrs
   places = length-map code.instrs whole_instr
 
