@@ -1,7 +1,8 @@
 -- The conclusion: what the flows of the first form mean for its runs.
 use Rattle.std.proofs.Common.{ℕ, List, arith}
 use Rattle.std.proofs.lemmas.Option.{slice_get_within}
-use Rattle.argot_first.specs.Answer.{IsReport}
+use Rattle.argot_first_form.specs.Tree.{File}
+use Rattle.argot_first.specs.Answer.{IsReport, IsReportOf}
 use Rattle.argot_first.specs.Code.{code_of}
 use Rattle.argot_first.specs.Flows.{IsFlow}
 use Rattle.argot_sound.proofs.Conclusion.{leak_flows}
@@ -20,12 +21,12 @@ each-leak file bytes form n x r s t k h = flows (code_of file) s t k (leak_flows
 pub no-leak : NoRunLeaks
 no-leak file bytes form none n x r s t k h = none s t k (each-leak file bytes form n x r s t k h)
 
-none-flows : (bytes text : List ℕ) → (r : IsReport bytes 0 text) → (s t k : ℕ) → IsFlow (code_of r.file) s t k → ⊥
-none-flows bytes text r s t k f =
+none-flows : (file : File) (bytes text : List ℕ) → (r : IsReportOf file bytes 0 text) → (s t k : ℕ) → IsFlow (code_of file) s t k → ⊥
+none-flows file bytes text r s t k f =
     let a = r.are_flows.complete s t k f in
     let w = slice_get_within r.flows a.0 _ a.1 in
     let e = r.counted in
     omega arith
 
 pub clean : CleanMeansNoLeak
-clean bytes text r n x run s t k h = no-leak r.file bytes r.form (none-flows bytes text r) n x run s t k h
+clean bytes text r file form n x run s t k h = no-leak file bytes form (none-flows file bytes text (r.each file form)) n x run s t k h

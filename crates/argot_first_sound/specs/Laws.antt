@@ -40,8 +40,8 @@ NoRunLeaks =
     (file : File) (bytes : List ℕ) → IsFirstForm file bytes → ((s t k : ℕ) → IsFlow (First.code_of file) s t k → ⊥)
     → (n : ℕ) (x : State) → IsRun (First.code_of file) n x → (s t k : ℕ) → Leaks (First.code_of file) x s t k → ⊥
 
--- where no flow is reported, no run leaks
+-- where the report of a text has no flow, no run of the program with this text leaks
 abbrev pub CleanMeansNoLeak : Type 0
 CleanMeansNoLeak =
-    (bytes text : List ℕ) → (r : IsReport bytes 0 text)
-    → (n : ℕ) (x : State) → IsRun (First.code_of r.file) n x → (s t k : ℕ) → Leaks (First.code_of r.file) x s t k → ⊥
+    (bytes text : List ℕ) → IsReport bytes 0 text → (file : File) → IsFirstForm file bytes
+    → (n : ℕ) (x : State) → IsRun (First.code_of file) n x → (s t k : ℕ) → Leaks (First.code_of file) x s t k → ⊥

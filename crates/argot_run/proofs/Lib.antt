@@ -1,4 +1,5 @@
 pub mod Delivered
 pub mod NoBound
 pub mod Owed
+pub mod Safe
 pub mod Slashes

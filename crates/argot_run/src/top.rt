@@ -1,5 +1,6 @@
 // The top call.
 ghost use Rattle.argot_run.specs.Ends.{Ends};
+ghost use Rattle.argot_run.specs.Safe.{IsSafe};
 ghost use Rattle.argot_run.specs.declared.status.Status.{Status};
 ghost use Rattle.std.specs.Prelude.{◌≡◌};
 
@@ -28,6 +29,9 @@ pub fn argot<X: Threads + Sync, F: Files, O: Sink, E: Sink>(
         (record { faults_before = O.faults out.old; faults_now = O.faults out.new; taken_before = O.taken out.old; taken_now = O.taken out.new })
         (record { faults_before = E.faults err.old; faults_now = E.faults err.new; taken_before = E.taken err.old; taken_now = E.taken err.new })
         result }
+    // The headline: after a clean end no run of the program leaks, in whatever order its goroutines take turns.
+    ensures clean { result ≡ Status.Clean → IsSafe words.now
+        (record { told = F.told files.old; before = F.faults files.old; now = F.faults files.new; last = F.last files.new }) }
     ensures no_bound { result ≡ Status.Bound → ⊥ }
 {
     match answer_to(alloc, words, files) {
