@@ -6,6 +6,7 @@ pub mod Follows
 pub mod Edges
 pub mod Lists
 pub mod Graphs
+pub mod Findings
 pub mod Flows
 pub mod Origins
 pub mod Summaries
