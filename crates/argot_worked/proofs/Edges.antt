@@ -120,7 +120,7 @@ module _ (l : Look) where
   targets_are {i} (Rules.target_method h n d j r s name path kind args site inside live at hands def refers is wrapper) = absurd (no_method i kind at r name (hands_are kind (Method r name) args n hands).0)
 
   plain_are : (i : ℕ) (kind : Kind) → IsAt first_flow i kind → (d j k r : ℕ) (q q' : List PathStep) → Takes asked kind r q k q' → DefinedAt first_flow d j r i → In {A = Key} (d, j, Plain, i, k) edge_keys
-  plain_are = at_place l (λ i kind. (d j k r : ℕ) (q q' : List PathStep) → Takes asked kind r q k q' → DefinedAt first_flow d j r i → In {A = Key} (d, j, Plain, i, k) edge_keys) (λ d j k r q q' t def. absurd t, (λ d j k r q q' t def. absurd t, (λ d j k r q q' t def. (let x = t.1 in absurd cc), (λ d j k r q q' t def. absurd t, (λ d j k r q q' t def. (let x = t.0 in absurd cc), (λ d j k r q q' t def. absurd t, (λ d j k r q q' t def. (let x = t.0 in absurd cc), (λ d j k r q q' t def. (let x = defined_7 l d j (subst (λ n. DefinedAt first_flow d j n 7) t.0 def) in let a = x.0 in let b = x.1 in let c = t.1 in here cc), (λ d j k r q q' t def. absurd t, (λ d j k r q q' t def. absurd t, (λ d j k r q q' t def. (let y = only_one 0 r k t.0 in let x = defined_10 l d j (subst (λ n. DefinedAt first_flow d j n 10) (sym y.1) def) in let a = x.0 in let b = x.1 in let c = y.0 in there (here cc)), (λ d j k r q q' t def. absurd t, (λ d j k r q q' t def. absurd t, (λ d j k r q q' t def. (let x = t.0 in absurd cc), (λ d j k r q q' t def. absurd t, (λ d j k r q q' t def. (let x = t.1 in absurd cc), (λ d j k r q q' t def. (let x = defined_16 l d j (subst (λ n. DefinedAt first_flow d j n 16) t.0 def) in let a = x.0 in let b = x.1 in let c = t.1 in there (there (there (here cc)))), (λ d j k r q q' t def. (let y = only_one 0 r t.0 t.1 in let x = defined_17 l d j (subst (λ n. DefinedAt first_flow d j n 17) (sym y.1) def) in let a = x.0 in let b = x.1 in let e = t.2 in let z = y.0 in let c : k ≡ 0 = omega arith in there (there (there (there (here cc))))), (λ d j k r q q' t def. absurd t, (λ d j k r q q' t def. (let x = t.0 in absurd cc), tt))))))))))))))))))))
+  plain_are = at_place l (λ i kind. (d j k r : ℕ) (q q' : List PathStep) → Takes asked kind r q k q' → DefinedAt first_flow d j r i → In {A = Key} (d, j, Plain, i, k) edge_keys) (λ d j k r q q' t def. absurd t, (λ d j k r q q' t def. absurd t, (λ d j k r q q' t def. (let x = t.1 in absurd cc), (λ d j k r q q' t def. absurd t, (λ d j k r q q' t def. (let x = t.0 in absurd cc), (λ d j k r q q' t def. absurd t, (λ d j k r q q' t def. (let x = t.0 in absurd cc), (λ d j k r q q' t def. (let x = defined_7 l d j (subst (λ n. DefinedAt first_flow d j n 7) t.0 def) in let a = x.0 in let b = x.1 in let c = t.1 in here cc), (λ d j k r q q' t def. absurd t, (λ d j k r q q' t def. absurd t, (λ d j k r q q' t def. (let y = only_one 0 r k t.0 in let x = defined_10 l d j (subst (λ n. DefinedAt first_flow d j n 10) (sym y.1) def) in let a = x.0 in let b = x.1 in let c = y.0 in there (here cc)), (λ d j k r q q' t def. absurd t, (λ d j k r q q' t def. absurd t, (λ d j k r q q' t def. (let x = t.0 in absurd cc), (λ d j k r q q' t def. absurd t, (λ d j k r q q' t def. (let x = t.1 in absurd cc), (λ d j k r q q' t def. (let x = defined_16 l d j (subst (λ n. DefinedAt first_flow d j n 16) t.0 def) in let a = x.0 in let b = x.1 in let c = t.1 in there (there (there (here cc)))), (λ d j k r q q' t def. (let y = only_one 1 r t.0 t.1 in let x = defined_17 l d j (subst (λ n. DefinedAt first_flow d j n 17) (sym y.1) def) in let a = x.0 in let b = x.1 in let e = t.2 in let z = y.0 in let c : k ≡ 0 = omega arith in there (there (there (there (here cc))))), (λ d j k r q q' t def. absurd t, (λ d j k r q q' t def. (let x = t.0 in absurd cc), tt))))))))))))))))))))
 
   call_are : (i : ℕ) (kind : Kind) → IsAt first_flow i kind → (g n k : ℕ) (fn : Function) → callee_of kind ≡ Some (Static g) → results_of kind ≡ n → k < length (args_of kind) → ℕ → IsFunction first_flow g fn → In {A = Key} (i, n + k, Enters i, fn.entry, k) edge_keys
   call_are = at_place l (λ i kind. (g n k : ℕ) (fn : Function) → callee_of kind ≡ Some (Static g) → results_of kind ≡ n → k < length (args_of kind) → ℕ → IsFunction first_flow g fn → In {A = Key} (i, n + k, Enters i, fn.entry, k) edge_keys) (λ g n k fn c x y z is. absurd cc, (λ g n k fn c x y z is. absurd cc, (λ g n k fn c x y z is. absurd (omega arith), (λ g n k fn c x y z is. absurd cc, (λ g n k fn c x y z is. absurd cc, (λ g n k fn c x y z is. absurd cc, (λ g n k fn c x y z is. absurd cc, (λ g n k fn c x y z is. absurd cc, (λ g n k fn c x y z is. absurd cc, (λ g n k fn c x y z is. absurd cc, (λ g n k fn c x y z is. absurd cc, (λ g n k fn c x y z is. absurd cc, (λ g n k fn c x y z is. absurd cc, (λ g n k fn c x y z is. absurd cc, (λ g n k fn c x y z is. absurd cc, (λ g n k fn c x y z is. absurd (omega arith), (λ g n k fn c x y z is. absurd cc, (λ g n k fn c x y z is. (let e : 2 ≡ g = cc in let f : (sink_function l) ≡ fn = functions_are l (λ m f. m ≡ 2 → (sink_function l) ≡ f) (λ u. absurd (omega arith)) (λ u. absurd (omega arith)) (λ u. refl) (λ u. absurd (omega arith)) g fn is (sym e) in let a = ap (λ (u : Function). u.entry) f in let b : k ≡ 0 = omega arith in let d : n + k ≡ 0 = omega arith in there (there (there (there (there (here cc)))))), (λ g n k fn c x y z is. absurd cc, (λ g n k fn c x y z is. absurd cc, tt))))))))))))))))))))
@@ -194,10 +194,10 @@ module _ (l : Look) where
   main_is_live = target_is_live 2 false (target_static 0 0 (Call [] (Static 3) []) [] inside_2 entry_is_live refl by_call)
 
   source_is_target : Holds first_flow (Targets 15 1 false)
-  source_is_target = target_static 3 1 (Call (1 ∷ []) (Static 1) []) [] inside_15 main_is_live refl by_call
+  source_is_target = target_static 3 1 (Call (0 ∷ []) (Static 1) []) [] inside_15 main_is_live refl by_call
 
   sink_is_target : Holds first_flow (Targets 17 2 false)
-  sink_is_target = target_static 3 0 (Call [] (Static 2) (0 ∷ [])) (0 ∷ []) inside_17 main_is_live refl by_call
+  sink_is_target = target_static 3 0 (Call [] (Static 2) (1 ∷ [])) (1 ∷ []) inside_17 main_is_live refl by_call
 
   source_is_live : Holds first_flow (IsLive 1)
   source_is_live = target_is_live 15 false source_is_target
@@ -224,13 +224,13 @@ module _ (l : Look) where
   marked_10 = record { place = refl; index = refl; has = of_kind 1 0 (Leave (0 ∷ [])) inside_10 refl refl refl }
 
   marked_15 : IsMarked first_flow (node 15 0) (mark 15 0 [])
-  marked_15 = record { place = refl; index = refl; has = of_kind 3 1 (Call (1 ∷ []) (Static 1) []) inside_15 refl refl refl }
+  marked_15 = record { place = refl; index = refl; has = of_kind 3 0 (Call (0 ∷ []) (Static 1) []) inside_15 refl refl refl }
 
   marked_16 : IsMarked first_flow (node 16 0) (mark 16 0 [])
-  marked_16 = record { place = refl; index = refl; has = of_kind 3 0 (Move 0 1 []) inside_16 refl refl refl }
+  marked_16 = record { place = refl; index = refl; has = of_kind 3 1 (Move 1 0 []) inside_16 refl refl refl }
 
   marked_17 : IsMarked first_flow (node 17 0) (mark 17 0 [])
-  marked_17 = record { place = refl; index = refl; has = of_kind 3 0 (Call [] (Static 2) (0 ∷ [])) inside_17 refl refl refl }
+  marked_17 = record { place = refl; index = refl; has = of_kind 3 1 (Call [] (Static 2) (1 ∷ [])) inside_17 refl refl refl }
 
   marked_11 : IsMarked first_flow (node 11 0) (mark 11 0 [])
   marked_11 = record { place = refl; index = refl; has = of_entry 2 (record { fn = (sink_function l); is = refl; at = refl }) zero_one refl }
@@ -242,16 +242,16 @@ module _ (l : Look) where
   edge_7 = record { from = mark 7 0 []; to = mark 10 0 []; is_from = marked_7; is_to = marked_10; moves = Drawn.plain 0 (Leave (0 ∷ [])) live_10 refl (refl, refl) (record { defines = by_kind (Move 0 1 []) refl refl; reaches = on (on (next (successor (Move 0 1 []) refl refl)) (λ k x. none_defined l 8 0 k (Goto 9) refl refl (inner_8 l) x) (successor (Goto 9) refl (refl, refl))) (λ k x. none_defined l 9 0 k RunDefers refl refl (inner_9 l) x) (successor RunDefers refl refl) }) }
 
   edge_10 : IsEdge first_flow asked (node 10 0) (Return 15) (node 15 0)
-  edge_10 = record { from = mark 10 0 []; to = mark 15 0 []; is_from = marked_10; is_to = marked_15; moves = Drawn.return 1 false (1 ∷ []) [] (Static 1) (source_function l) refl source_is_target refl refl zero_one refl }
+  edge_10 = record { from = mark 10 0 []; to = mark 15 0 []; is_from = marked_10; is_to = marked_15; moves = Drawn.return 1 false (0 ∷ []) [] (Static 1) (source_function l) refl source_is_target refl refl zero_one refl }
 
   edge_15 : IsEdge first_flow asked (node 15 0) Plain (node 16 0)
-  edge_15 = record { from = mark 15 0 []; to = mark 16 0 []; is_from = marked_15; is_to = marked_16; moves = Drawn.plain 1 (Move 0 1 []) live_16 refl (refl, refl, refl) (record { defines = by_kind (Call (1 ∷ []) (Static 1) []) refl refl; reaches = next (successor (Call (1 ∷ []) (Static 1) []) refl refl) }) }
+  edge_15 = record { from = mark 15 0 []; to = mark 16 0 []; is_from = marked_15; is_to = marked_16; moves = Drawn.plain 0 (Move 1 0 []) live_16 refl (refl, refl, refl) (record { defines = by_kind (Call (0 ∷ []) (Static 1) []) refl refl; reaches = next (successor (Call (0 ∷ []) (Static 1) []) refl refl) }) }
 
   edge_16 : IsEdge first_flow asked (node 16 0) Plain (node 17 0)
-  edge_16 = record { from = mark 16 0 []; to = mark 17 0 []; is_from = marked_16; is_to = marked_17; moves = Drawn.plain 0 (Call [] (Static 2) (0 ∷ [])) live_17 refl (0, refl, refl, refl) (record { defines = by_kind (Move 0 1 []) refl refl; reaches = next (successor (Move 0 1 []) refl refl) }) }
+  edge_16 = record { from = mark 16 0 []; to = mark 17 0 []; is_from = marked_16; is_to = marked_17; moves = Drawn.plain 1 (Call [] (Static 2) (1 ∷ [])) live_17 refl (0, refl, refl, refl) (record { defines = by_kind (Move 1 0 []) refl refl; reaches = next (successor (Move 1 0 []) refl refl) }) }
 
   edge_17 : IsEdge first_flow asked (node 17 0) (Enters 17) (node 11 0)
-  edge_17 = record { from = mark 17 0 []; to = mark 11 0 []; is_from = marked_17; is_to = marked_11; moves = Drawn.call 0 2 0 false (Call [] (Static 2) (0 ∷ [])) (Static 2) (0 ∷ []) (sink_function l) refl Drawn.a_call by_call sink_is_target refl refl }
+  edge_17 = record { from = mark 17 0 []; to = mark 11 0 []; is_from = marked_17; is_to = marked_11; moves = Drawn.call 0 2 0 false (Call [] (Static 2) (1 ∷ [])) (Static 2) (1 ∷ []) (sink_function l) refl Drawn.a_call by_call sink_is_target refl refl }
 
   abbrev Drawn_edge : Node × EdgeKind × Node → Type 0
   Drawn_edge x = IsEdge first_flow asked x.0 x.1 x.2
@@ -282,7 +282,7 @@ module _ (l : Look) where
   node_there a (there (there (there (there (there (there (there (m)))))))) = elim m [ ]
 
   register_nodes : (i : ℕ) (kind : Kind) → IsAt first_flow i kind → (k r : ℕ) → slice_get (node_registers kind) k ≡ Some r → In {A = ℕ × ℕ} (i, k) keys
-  register_nodes = at_place l (λ i kind. (k r : ℕ) → slice_get (node_registers kind) k ≡ Some r → In {A = ℕ × ℕ} (i, k) keys) (λ k r h. absurd cc, (λ k r h. absurd cc, (λ k r h. absurd cc, (λ k r h. absurd cc, (λ k r h. absurd cc, (λ k r h. absurd cc, (λ k r h. (let x = (only_one 1 r k h).0 in here cc), (λ k r h. (let x = (only_one 0 r k h).0 in there (here cc)), (λ k r h. absurd cc, (λ k r h. absurd cc, (λ k r h. (let x = (only_one 0 r k h).0 in there (there (here cc))), (λ k r h. absurd cc, (λ k r h. absurd cc, (λ k r h. absurd cc, (λ k r h. absurd cc, (λ k r h. (let x = (only_one 1 r k h).0 in there (there (there (there (here cc))))), (λ k r h. (let x = (only_one 0 r k h).0 in there (there (there (there (there (here cc)))))), (λ k r h. (let x = (only_one 0 r k h).0 in there (there (there (there (there (there (here cc))))))), (λ k r h. absurd cc, (λ k r h. absurd cc, tt))))))))))))))))))))
+  register_nodes = at_place l (λ i kind. (k r : ℕ) → slice_get (node_registers kind) k ≡ Some r → In {A = ℕ × ℕ} (i, k) keys) (λ k r h. absurd cc, (λ k r h. absurd cc, (λ k r h. absurd cc, (λ k r h. absurd cc, (λ k r h. absurd cc, (λ k r h. absurd cc, (λ k r h. (let x = (only_one 1 r k h).0 in here cc), (λ k r h. (let x = (only_one 0 r k h).0 in there (here cc)), (λ k r h. absurd cc, (λ k r h. absurd cc, (λ k r h. (let x = (only_one 0 r k h).0 in there (there (here cc))), (λ k r h. absurd cc, (λ k r h. absurd cc, (λ k r h. absurd cc, (λ k r h. absurd cc, (λ k r h. (let x = (only_one 0 r k h).0 in there (there (there (there (here cc))))), (λ k r h. (let x = (only_one 1 r k h).0 in there (there (there (there (there (here cc)))))), (λ k r h. (let x = (only_one 1 r k h).0 in there (there (there (there (there (there (here cc))))))), (λ k r h. absurd cc, (λ k r h. absurd cc, tt))))))))))))))))))))
 
   entry_nodes : (i g k : ℕ) (e : IsEntry first_flow i g) → k < e.fn.params → In {A = ℕ × ℕ} (i, k) keys
   entry_nodes i g k e within = functions_are l (λ g fn. i ≡ fn.entry → k < fn.params → In {A = ℕ × ℕ} (i, k) keys) (λ x y. absurd (omega arith)) (λ x y. absurd (omega arith)) (λ x y. (let z : k ≡ 0 = omega arith in there (there (there (here cc))))) (λ x y. absurd (omega arith)) g e.fn e.is e.at within

@@ -34,11 +34,15 @@ in_two : (x : ℕ) → In x (0 ∷ 1 ∷ []) → x ≤ 1
 in_two x (here e) = omega arith
 in_two x (there m) = let e = in_one x 1 m in omega arith
 
+in_both : (x : ℕ) → In x (1 ∷ 0 ∷ []) → x ≤ 1
+in_both x (here e) = omega arith
+in_both x (there m) = let e = in_one x 0 m in omega arith
+
 distinct_none : IsDistinct {A = ℕ} []
 distinct_none a b x h k = absurd cc
 
-distinct_one : IsDistinct {A = ℕ} (1 ∷ [])
-distinct_one a b x h k = let e = (only_one 1 x a h).0 in let f = (only_one 1 x b k).0 in e ∙ sym f
+distinct_one : IsDistinct {A = ℕ} (0 ∷ [])
+distinct_one a b x h k = let e = (only_one 0 x a h).0 in let f = (only_one 0 x b k).0 in e ∙ sym f
 
 next_entry : (i : ℕ) (kind : Kind) → IsAt first_flow i kind → (j : ℕ) → Next kind i j → (j ≡ 0 → ⊥) × (j ≡ 5 → ⊥) × (j ≡ 11 → ⊥) × (j ≡ 14 → ⊥)
 next_entry = at_place look (λ i kind. (j : ℕ) → Next kind i j → (j ≡ 0 → ⊥) × (j ≡ 5 → ⊥) × (j ≡ 11 → ⊥) × (j ≡ 14 → ⊥)) (λ j e. (let x = e.0 in (λ z. absurd (omega arith), λ z. absurd (omega arith), λ z. absurd (omega arith), λ z. absurd (omega arith))), (λ j e. (let x = (only_one 2 j e.0 e.1).1 in (λ z. absurd (omega arith), λ z. absurd (omega arith), λ z. absurd (omega arith), λ z. absurd (omega arith))), (λ j e. (λ z. absurd (omega arith), λ z. absurd (omega arith), λ z. absurd (omega arith), λ z. absurd (omega arith)), (λ j e. (λ z. absurd (omega arith), λ z. absurd (omega arith), λ z. absurd (omega arith), λ z. absurd (omega arith)), (λ j e. absurd e, (λ j e. (let x = e.0 in (λ z. absurd (omega arith), λ z. absurd (omega arith), λ z. absurd (omega arith), λ z. absurd (omega arith))), (λ j e. (λ z. absurd (omega arith), λ z. absurd (omega arith), λ z. absurd (omega arith), λ z. absurd (omega arith)), (λ j e. (λ z. absurd (omega arith), λ z. absurd (omega arith), λ z. absurd (omega arith), λ z. absurd (omega arith)), (λ j e. (let x = e.0 in (λ z. absurd (omega arith), λ z. absurd (omega arith), λ z. absurd (omega arith), λ z. absurd (omega arith))), (λ j e. (λ z. absurd (omega arith), λ z. absurd (omega arith), λ z. absurd (omega arith), λ z. absurd (omega arith)), (λ j e. absurd e, (λ j e. (let x = e.0 in (λ z. absurd (omega arith), λ z. absurd (omega arith), λ z. absurd (omega arith), λ z. absurd (omega arith))), (λ j e. (λ z. absurd (omega arith), λ z. absurd (omega arith), λ z. absurd (omega arith), λ z. absurd (omega arith)), (λ j e. absurd e, (λ j e. (let x = e.0 in (λ z. absurd (omega arith), λ z. absurd (omega arith), λ z. absurd (omega arith), λ z. absurd (omega arith))), (λ j e. (λ z. absurd (omega arith), λ z. absurd (omega arith), λ z. absurd (omega arith), λ z. absurd (omega arith)), (λ j e. (λ z. absurd (omega arith), λ z. absurd (omega arith), λ z. absurd (omega arith), λ z. absurd (omega arith)), (λ j e. (λ z. absurd (omega arith), λ z. absurd (omega arith), λ z. absurd (omega arith), λ z. absurd (omega arith)), (λ j e. (λ z. absurd (omega arith), λ z. absurd (omega arith), λ z. absurd (omega arith), λ z. absurd (omega arith)), (λ j e. absurd e, tt))))))))))))))))))))
@@ -59,19 +63,19 @@ branches_at : (i : ℕ) (kind : Kind) → IsAt first_flow i kind → (target : �
 branches_at = at_place look (λ i kind. (target : ℕ) (targets : List ℕ) → kind ≡ Branch targets → In target targets → (g : ℕ) (fn : Function) → IsFunction first_flow g fn → fn.entry ≤ i → i ≤ fn.leave → target ≤ fn.exit) (λ t ts e m g fn is lo hi. absurd cc, (λ t ts e m g fn is lo hi. (let x : (2 ∷ []) ≡ ts = cc in let y = in_one t 2 (subst (In t) (sym x) m) in functions_are look (λ g fn. fn.entry ≤ 1 → 1 ≤ fn.leave → t ≤ fn.exit) (λ a b. omega arith) (λ a b. absurd (omega arith)) (λ a b. absurd (omega arith)) (λ a b. absurd (omega arith)) g fn is lo hi), (λ t ts e m g fn is lo hi. absurd cc, (λ t ts e m g fn is lo hi. absurd cc, (λ t ts e m g fn is lo hi. absurd cc, (λ t ts e m g fn is lo hi. absurd cc, (λ t ts e m g fn is lo hi. absurd cc, (λ t ts e m g fn is lo hi. absurd cc, (λ t ts e m g fn is lo hi. absurd cc, (λ t ts e m g fn is lo hi. absurd cc, (λ t ts e m g fn is lo hi. absurd cc, (λ t ts e m g fn is lo hi. absurd cc, (λ t ts e m g fn is lo hi. absurd cc, (λ t ts e m g fn is lo hi. absurd cc, (λ t ts e m g fn is lo hi. absurd cc, (λ t ts e m g fn is lo hi. absurd cc, (λ t ts e m g fn is lo hi. absurd cc, (λ t ts e m g fn is lo hi. absurd cc, (λ t ts e m g fn is lo hi. absurd cc, (λ t ts e m g fn is lo hi. absurd cc, tt))))))))))))))))))))
 
 registers_at : (i : ℕ) (kind : Kind) → IsAt first_flow i kind → (r : ℕ) → In r (defined kind ++ reads kind) → (g : ℕ) (fn : Function) → IsFunction first_flow g fn → fn.entry ≤ i → i ≤ fn.leave → r < length fn.registers
-registers_at = at_place look (λ i kind. (r : ℕ) → In r (defined kind ++ reads kind) → (g : ℕ) (fn : Function) → IsFunction first_flow g fn → fn.entry ≤ i → i ≤ fn.leave → r < length fn.registers) (λ r m g fn is lo hi. in_none r m, (λ r m g fn is lo hi. in_none r m, (λ r m g fn is lo hi. in_none r m, (λ r m g fn is lo hi. in_none r m, (λ r m g fn is lo hi. in_none r m, (λ r m g fn is lo hi. in_none r m, (λ r m g fn is lo hi. (let y = in_one r 1 m in functions_are look (λ g fn. fn.entry ≤ 6 → 6 ≤ fn.leave → r < length fn.registers) (λ a b. absurd (omega arith)) (λ a b. omega arith) (λ a b. absurd (omega arith)) (λ a b. absurd (omega arith)) g fn is lo hi), (λ r m g fn is lo hi. (let y = in_two r m in functions_are look (λ g fn. fn.entry ≤ 7 → 7 ≤ fn.leave → r < length fn.registers) (λ a b. absurd (omega arith)) (λ a b. omega arith) (λ a b. absurd (omega arith)) (λ a b. absurd (omega arith)) g fn is lo hi), (λ r m g fn is lo hi. in_none r m, (λ r m g fn is lo hi. in_none r m, (λ r m g fn is lo hi. (let y = in_one r 0 m in functions_are look (λ g fn. fn.entry ≤ 10 → 10 ≤ fn.leave → r < length fn.registers) (λ a b. absurd (omega arith)) (λ a b. omega arith) (λ a b. absurd (omega arith)) (λ a b. absurd (omega arith)) g fn is lo hi), (λ r m g fn is lo hi. in_none r m, (λ r m g fn is lo hi. in_none r m, (λ r m g fn is lo hi. in_none r m, (λ r m g fn is lo hi. in_none r m, (λ r m g fn is lo hi. (let y = in_one r 1 m in functions_are look (λ g fn. fn.entry ≤ 15 → 15 ≤ fn.leave → r < length fn.registers) (λ a b. absurd (omega arith)) (λ a b. absurd (omega arith)) (λ a b. absurd (omega arith)) (λ a b. omega arith) g fn is lo hi), (λ r m g fn is lo hi. (let y = in_two r m in functions_are look (λ g fn. fn.entry ≤ 16 → 16 ≤ fn.leave → r < length fn.registers) (λ a b. absurd (omega arith)) (λ a b. absurd (omega arith)) (λ a b. absurd (omega arith)) (λ a b. omega arith) g fn is lo hi), (λ r m g fn is lo hi. (let y = in_one r 0 m in functions_are look (λ g fn. fn.entry ≤ 17 → 17 ≤ fn.leave → r < length fn.registers) (λ a b. absurd (omega arith)) (λ a b. absurd (omega arith)) (λ a b. absurd (omega arith)) (λ a b. omega arith) g fn is lo hi), (λ r m g fn is lo hi. in_none r m, (λ r m g fn is lo hi. in_none r m, tt))))))))))))))))))))
+registers_at = at_place look (λ i kind. (r : ℕ) → In r (defined kind ++ reads kind) → (g : ℕ) (fn : Function) → IsFunction first_flow g fn → fn.entry ≤ i → i ≤ fn.leave → r < length fn.registers) (λ r m g fn is lo hi. in_none r m, (λ r m g fn is lo hi. in_none r m, (λ r m g fn is lo hi. in_none r m, (λ r m g fn is lo hi. in_none r m, (λ r m g fn is lo hi. in_none r m, (λ r m g fn is lo hi. in_none r m, (λ r m g fn is lo hi. (let y = in_one r 1 m in functions_are look (λ g fn. fn.entry ≤ 6 → 6 ≤ fn.leave → r < length fn.registers) (λ a b. absurd (omega arith)) (λ a b. omega arith) (λ a b. absurd (omega arith)) (λ a b. absurd (omega arith)) g fn is lo hi), (λ r m g fn is lo hi. (let y = in_two r m in functions_are look (λ g fn. fn.entry ≤ 7 → 7 ≤ fn.leave → r < length fn.registers) (λ a b. absurd (omega arith)) (λ a b. omega arith) (λ a b. absurd (omega arith)) (λ a b. absurd (omega arith)) g fn is lo hi), (λ r m g fn is lo hi. in_none r m, (λ r m g fn is lo hi. in_none r m, (λ r m g fn is lo hi. (let y = in_one r 0 m in functions_are look (λ g fn. fn.entry ≤ 10 → 10 ≤ fn.leave → r < length fn.registers) (λ a b. absurd (omega arith)) (λ a b. omega arith) (λ a b. absurd (omega arith)) (λ a b. absurd (omega arith)) g fn is lo hi), (λ r m g fn is lo hi. in_none r m, (λ r m g fn is lo hi. in_none r m, (λ r m g fn is lo hi. in_none r m, (λ r m g fn is lo hi. in_none r m, (λ r m g fn is lo hi. (let y = in_one r 0 m in functions_are look (λ g fn. fn.entry ≤ 15 → 15 ≤ fn.leave → r < length fn.registers) (λ a b. absurd (omega arith)) (λ a b. absurd (omega arith)) (λ a b. absurd (omega arith)) (λ a b. omega arith) g fn is lo hi), (λ r m g fn is lo hi. (let y = in_both r m in functions_are look (λ g fn. fn.entry ≤ 16 → 16 ≤ fn.leave → r < length fn.registers) (λ a b. absurd (omega arith)) (λ a b. absurd (omega arith)) (λ a b. absurd (omega arith)) (λ a b. omega arith) g fn is lo hi), (λ r m g fn is lo hi. (let y = in_one r 1 m in functions_are look (λ g fn. fn.entry ≤ 17 → 17 ≤ fn.leave → r < length fn.registers) (λ a b. absurd (omega arith)) (λ a b. absurd (omega arith)) (λ a b. absurd (omega arith)) (λ a b. omega arith) g fn is lo hi), (λ r m g fn is lo hi. in_none r m, (λ r m g fn is lo hi. in_none r m, tt))))))))))))))))))))
 
 references_at : (i : ℕ) (kind : Kind) → IsAt first_flow i kind → (r : ℕ) → In r (reference_registers kind) → ⊥
 references_at = at_place look (λ i kind. (r : ℕ) → In r (reference_registers kind) → ⊥) (λ r m. in_none r m, (λ r m. in_none r m, (λ r m. in_none r m, (λ r m. in_none r m, (λ r m. in_none r m, (λ r m. in_none r m, (λ r m. in_none r m, (λ r m. in_none r m, (λ r m. in_none r m, (λ r m. in_none r m, (λ r m. in_none r m, (λ r m. in_none r m, (λ r m. in_none r m, (λ r m. in_none r m, (λ r m. in_none r m, (λ r m. in_none r m, (λ r m. in_none r m, (λ r m. in_none r m, (λ r m. in_none r m, (λ r m. in_none r m, tt))))))))))))))))))))
 
 once_at : (i : ℕ) (kind : Kind) → IsAt first_flow i kind → (to args : List ℕ) (callee : Callee) → kind ≡ Call to callee args → IsDistinct to
-once_at = at_place look (λ i kind. (to args : List ℕ) (callee : Callee) → kind ≡ Call to callee args → IsDistinct to) (λ to args c e. absurd cc, (λ to args c e. absurd cc, (λ to args c e. (let x : [] ≡ to = cc in subst (λ (xs : List ℕ). IsDistinct xs) x distinct_none), (λ to args c e. absurd cc, (λ to args c e. absurd cc, (λ to args c e. absurd cc, (λ to args c e. absurd cc, (λ to args c e. absurd cc, (λ to args c e. absurd cc, (λ to args c e. absurd cc, (λ to args c e. absurd cc, (λ to args c e. absurd cc, (λ to args c e. absurd cc, (λ to args c e. absurd cc, (λ to args c e. absurd cc, (λ to args c e. (let x : (1 ∷ []) ≡ to = cc in subst (λ (xs : List ℕ). IsDistinct xs) x distinct_one), (λ to args c e. absurd cc, (λ to args c e. (let x : [] ≡ to = cc in subst (λ (xs : List ℕ). IsDistinct xs) x distinct_none), (λ to args c e. absurd cc, (λ to args c e. absurd cc, tt))))))))))))))))))))
+once_at = at_place look (λ i kind. (to args : List ℕ) (callee : Callee) → kind ≡ Call to callee args → IsDistinct to) (λ to args c e. absurd cc, (λ to args c e. absurd cc, (λ to args c e. (let x : [] ≡ to = cc in subst (λ (xs : List ℕ). IsDistinct xs) x distinct_none), (λ to args c e. absurd cc, (λ to args c e. absurd cc, (λ to args c e. absurd cc, (λ to args c e. absurd cc, (λ to args c e. absurd cc, (λ to args c e. absurd cc, (λ to args c e. absurd cc, (λ to args c e. absurd cc, (λ to args c e. absurd cc, (λ to args c e. absurd cc, (λ to args c e. absurd cc, (λ to args c e. absurd cc, (λ to args c e. (let x : (0 ∷ []) ≡ to = cc in subst (λ (xs : List ℕ). IsDistinct xs) x distinct_one), (λ to args c e. absurd cc, (λ to args c e. (let x : [] ≡ to = cc in subst (λ (xs : List ℕ). IsDistinct xs) x distinct_none), (λ to args c e. absurd cc, (λ to args c e. absurd cc, tt))))))))))))))))))))
 
 op_at : (i : ℕ) (kind : Kind) → IsAt first_flow i kind → (to : ℕ) (from : List ℕ) → kind ≡ Op to from → (g : ℕ) (fn : Function) → IsFunction first_flow g fn → fn.entry ≤ i → i ≤ fn.leave → leaves first_flow g to ≡ [] ∷ []
 op_at = at_place look (λ i kind. (to : ℕ) (from : List ℕ) → kind ≡ Op to from → (g : ℕ) (fn : Function) → IsFunction first_flow g fn → fn.entry ≤ i → i ≤ fn.leave → leaves first_flow g to ≡ [] ∷ []) (λ to from e g fn is lo hi. absurd cc, (λ to from e g fn is lo hi. absurd cc, (λ to from e g fn is lo hi. absurd cc, (λ to from e g fn is lo hi. absurd cc, (λ to from e g fn is lo hi. absurd cc, (λ to from e g fn is lo hi. absurd cc, (λ to from e g fn is lo hi. (let x : 1 ≡ to = cc in subst (λ n. leaves first_flow g n ≡ [] ∷ []) x (functions_are look (λ g fn. fn.entry ≤ 6 → 6 ≤ fn.leave → leaves first_flow g 1 ≡ [] ∷ []) (λ a b. absurd (omega arith)) (λ a b. refl) (λ a b. absurd (omega arith)) (λ a b. absurd (omega arith)) g fn is lo hi)), (λ to from e g fn is lo hi. absurd cc, (λ to from e g fn is lo hi. absurd cc, (λ to from e g fn is lo hi. absurd cc, (λ to from e g fn is lo hi. absurd cc, (λ to from e g fn is lo hi. absurd cc, (λ to from e g fn is lo hi. absurd cc, (λ to from e g fn is lo hi. absurd cc, (λ to from e g fn is lo hi. absurd cc, (λ to from e g fn is lo hi. absurd cc, (λ to from e g fn is lo hi. absurd cc, (λ to from e g fn is lo hi. absurd cc, (λ to from e g fn is lo hi. absurd cc, (λ to from e g fn is lo hi. absurd cc, tt))))))))))))))))))))
 
 move_at : (i : ℕ) (kind : Kind) → IsAt first_flow i kind → (to from : ℕ) (path : List PathStep) → kind ≡ Move to from path → (g : ℕ) (fn : Function) → IsFunction first_flow g fn → fn.entry ≤ i → i ≤ fn.leave → leaves first_flow g to ≡ filter_map (below path) (leaves first_flow g from)
-move_at = at_place look (λ i kind. (to from : ℕ) (path : List PathStep) → kind ≡ Move to from path → (g : ℕ) (fn : Function) → IsFunction first_flow g fn → fn.entry ≤ i → i ≤ fn.leave → leaves first_flow g to ≡ filter_map (below path) (leaves first_flow g from)) (λ to from path e g fn is lo hi. absurd cc, (λ to from path e g fn is lo hi. absurd cc, (λ to from path e g fn is lo hi. absurd cc, (λ to from path e g fn is lo hi. absurd cc, (λ to from path e g fn is lo hi. absurd cc, (λ to from path e g fn is lo hi. absurd cc, (λ to from path e g fn is lo hi. absurd cc, (λ to from path e g fn is lo hi. (let x : 0 ≡ to = cc in let y : 1 ≡ from = cc in let z : [] ≡ path = cc in subst (λ n. leaves first_flow g n ≡ filter_map (below path) (leaves first_flow g from)) x (subst (λ n. leaves first_flow g 0 ≡ filter_map (below path) (leaves first_flow g n)) y (subst (λ (q : List PathStep). leaves first_flow g 0 ≡ filter_map (below q) (leaves first_flow g 1)) z (functions_are look (λ g fn. fn.entry ≤ 7 → 7 ≤ fn.leave → leaves first_flow g 0 ≡ filter_map (below []) (leaves first_flow g 1)) (λ a b. absurd (omega arith)) (λ a b. refl) (λ a b. absurd (omega arith)) (λ a b. absurd (omega arith)) g fn is lo hi)))), (λ to from path e g fn is lo hi. absurd cc, (λ to from path e g fn is lo hi. absurd cc, (λ to from path e g fn is lo hi. absurd cc, (λ to from path e g fn is lo hi. absurd cc, (λ to from path e g fn is lo hi. absurd cc, (λ to from path e g fn is lo hi. absurd cc, (λ to from path e g fn is lo hi. absurd cc, (λ to from path e g fn is lo hi. absurd cc, (λ to from path e g fn is lo hi. (let x : 0 ≡ to = cc in let y : 1 ≡ from = cc in let z : [] ≡ path = cc in subst (λ n. leaves first_flow g n ≡ filter_map (below path) (leaves first_flow g from)) x (subst (λ n. leaves first_flow g 0 ≡ filter_map (below path) (leaves first_flow g n)) y (subst (λ (q : List PathStep). leaves first_flow g 0 ≡ filter_map (below q) (leaves first_flow g 1)) z (functions_are look (λ g fn. fn.entry ≤ 16 → 16 ≤ fn.leave → leaves first_flow g 0 ≡ filter_map (below []) (leaves first_flow g 1)) (λ a b. absurd (omega arith)) (λ a b. absurd (omega arith)) (λ a b. absurd (omega arith)) (λ a b. refl) g fn is lo hi)))), (λ to from path e g fn is lo hi. absurd cc, (λ to from path e g fn is lo hi. absurd cc, (λ to from path e g fn is lo hi. absurd cc, tt))))))))))))))))))))
+move_at = at_place look (λ i kind. (to from : ℕ) (path : List PathStep) → kind ≡ Move to from path → (g : ℕ) (fn : Function) → IsFunction first_flow g fn → fn.entry ≤ i → i ≤ fn.leave → leaves first_flow g to ≡ filter_map (below path) (leaves first_flow g from)) (λ to from path e g fn is lo hi. absurd cc, (λ to from path e g fn is lo hi. absurd cc, (λ to from path e g fn is lo hi. absurd cc, (λ to from path e g fn is lo hi. absurd cc, (λ to from path e g fn is lo hi. absurd cc, (λ to from path e g fn is lo hi. absurd cc, (λ to from path e g fn is lo hi. absurd cc, (λ to from path e g fn is lo hi. (let x : 0 ≡ to = cc in let y : 1 ≡ from = cc in let z : [] ≡ path = cc in subst (λ n. leaves first_flow g n ≡ filter_map (below path) (leaves first_flow g from)) x (subst (λ n. leaves first_flow g 0 ≡ filter_map (below path) (leaves first_flow g n)) y (subst (λ (q : List PathStep). leaves first_flow g 0 ≡ filter_map (below q) (leaves first_flow g 1)) z (functions_are look (λ g fn. fn.entry ≤ 7 → 7 ≤ fn.leave → leaves first_flow g 0 ≡ filter_map (below []) (leaves first_flow g 1)) (λ a b. absurd (omega arith)) (λ a b. refl) (λ a b. absurd (omega arith)) (λ a b. absurd (omega arith)) g fn is lo hi)))), (λ to from path e g fn is lo hi. absurd cc, (λ to from path e g fn is lo hi. absurd cc, (λ to from path e g fn is lo hi. absurd cc, (λ to from path e g fn is lo hi. absurd cc, (λ to from path e g fn is lo hi. absurd cc, (λ to from path e g fn is lo hi. absurd cc, (λ to from path e g fn is lo hi. absurd cc, (λ to from path e g fn is lo hi. absurd cc, (λ to from path e g fn is lo hi. (let x : 1 ≡ to = cc in let y : 0 ≡ from = cc in let z : [] ≡ path = cc in subst (λ n. leaves first_flow g n ≡ filter_map (below path) (leaves first_flow g from)) x (subst (λ n. leaves first_flow g 1 ≡ filter_map (below path) (leaves first_flow g n)) y (subst (λ (q : List PathStep). leaves first_flow g 1 ≡ filter_map (below q) (leaves first_flow g 0)) z (functions_are look (λ g fn. fn.entry ≤ 16 → 16 ≤ fn.leave → leaves first_flow g 1 ≡ filter_map (below []) (leaves first_flow g 0)) (λ a b. absurd (omega arith)) (λ a b. absurd (omega arith)) (λ a b. absurd (omega arith)) (λ a b. refl) g fn is lo hi)))), (λ to from path e g fn is lo hi. absurd cc, (λ to from path e g fn is lo hi. absurd cc, (λ to from path e g fn is lo hi. absurd cc, tt))))))))))))))))))))
 
 no_join : (i : ℕ) (kind : Kind) → IsAt first_flow i kind → (to : ℕ) (parts : List (List PathStep × ℕ)) → kind ≡ Join to parts → ⊥
 no_join = at_place look (λ i kind. (to : ℕ) (parts : List (List PathStep × ℕ)) → kind ≡ Join to parts → ⊥) (λ to parts e. cc, (λ to parts e. cc, (λ to parts e. cc, (λ to parts e. cc, (λ to parts e. cc, (λ to parts e. cc, (λ to parts e. cc, (λ to parts e. cc, (λ to parts e. cc, (λ to parts e. cc, (λ to parts e. cc, (λ to parts e. cc, (λ to parts e. cc, (λ to parts e. cc, (λ to parts e. cc, (λ to parts e. cc, (λ to parts e. cc, (λ to parts e. cc, (λ to parts e. cc, (λ to parts e. cc, tt))))))))))))))))))))
@@ -104,17 +108,17 @@ fits_2 g b = record { fn = (main_function look); is = refl; count = refl; params
 number_15 : (g : ℕ) (fn : Function) → IsFunction first_flow g fn → fn.entry ≤ 15 → 15 ≤ fn.leave → g ≡ 3
 number_15 = functions_are look (λ g fn. fn.entry ≤ 15 → 15 ≤ fn.leave → g ≡ 3) (λ a b. absurd (omega arith)) (λ a b. absurd (omega arith)) (λ a b. absurd (omega arith)) (λ a b. refl)
 
-fits_15 : (g : ℕ) → (fn : Function) × IsFunction first_flow g fn × (fn.entry ≤ 15) × (15 ≤ fn.leave) → FitsStatic first_flow g 1 (Call (1 ∷ []) (Static 1) []) []
-fits_15 g b = record { fn = (source_function look); is = refl; count = refl; params = λ k r e. absurd cc; no_env = refl; results = λ to callee e. (let x : (1 ∷ []) ≡ to = cc in ap length (sym x)); returned = λ to from callee k r s e body lv a c. (let x : (1 ∷ []) ≡ to = cc in let y = only_one 1 r k (subst (λ (xs : List ℕ). slice_get xs k ≡ Some r) (sym x) a) in let f : (0 ∷ []) ≡ from = cc in let v = only_one 0 s k (subst (λ (xs : List ℕ). slice_get xs k ≡ Some s) (sym f) c) in let z = number_15 g b.0 b.1 b.2 b.3 in subst (λ n. leaves first_flow n r ≡ leaves first_flow 1 s) (sym z) (subst (λ n. leaves first_flow 3 n ≡ leaves first_flow 1 s) y.1 (subst (λ n. leaves first_flow 3 1 ≡ leaves first_flow 1 n) v.1 refl))) }
+fits_15 : (g : ℕ) → (fn : Function) × IsFunction first_flow g fn × (fn.entry ≤ 15) × (15 ≤ fn.leave) → FitsStatic first_flow g 1 (Call (0 ∷ []) (Static 1) []) []
+fits_15 g b = record { fn = (source_function look); is = refl; count = refl; params = λ k r e. absurd cc; no_env = refl; results = λ to callee e. (let x : (0 ∷ []) ≡ to = cc in ap length (sym x)); returned = λ to from callee k r s e body lv a c. (let x : (0 ∷ []) ≡ to = cc in let y = only_one 0 r k (subst (λ (xs : List ℕ). slice_get xs k ≡ Some r) (sym x) a) in let f : (0 ∷ []) ≡ from = cc in let v = only_one 0 s k (subst (λ (xs : List ℕ). slice_get xs k ≡ Some s) (sym f) c) in let z = number_15 g b.0 b.1 b.2 b.3 in subst (λ n. leaves first_flow n r ≡ leaves first_flow 1 s) (sym z) (subst (λ n. leaves first_flow 3 n ≡ leaves first_flow 1 s) y.1 (subst (λ n. leaves first_flow 3 0 ≡ leaves first_flow 1 n) v.1 refl))) }
 
 number_17 : (g : ℕ) (fn : Function) → IsFunction first_flow g fn → fn.entry ≤ 17 → 17 ≤ fn.leave → g ≡ 3
 number_17 = functions_are look (λ g fn. fn.entry ≤ 17 → 17 ≤ fn.leave → g ≡ 3) (λ a b. absurd (omega arith)) (λ a b. absurd (omega arith)) (λ a b. absurd (omega arith)) (λ a b. refl)
 
-fits_17 : (g : ℕ) → (fn : Function) × IsFunction first_flow g fn × (fn.entry ≤ 17) × (17 ≤ fn.leave) → FitsStatic first_flow g 2 (Call [] (Static 2) (0 ∷ [])) (0 ∷ [])
-fits_17 g b = record { fn = (sink_function look); is = refl; count = refl; params = λ k r e. (let x = only_one 0 r k e in let z = number_17 g b.0 b.1 b.2 b.3 in subst (λ n. leaves first_flow n r ≡ leaves first_flow 2 k) (sym z) (subst (λ n. leaves first_flow 3 n ≡ leaves first_flow 2 k) x.1 (subst (λ n. leaves first_flow 3 0 ≡ leaves first_flow 2 n) (sym x.0) refl))); no_env = refl; results = λ to callee e. (let x : [] ≡ to = cc in ap length (sym x)); returned = λ to from callee k r s e b lv a c. (let x : [] ≡ to = cc in let y = subst (λ (xs : List ℕ). slice_get xs k ≡ Some r) (sym x) a in absurd cc) }
+fits_17 : (g : ℕ) → (fn : Function) × IsFunction first_flow g fn × (fn.entry ≤ 17) × (17 ≤ fn.leave) → FitsStatic first_flow g 2 (Call [] (Static 2) (1 ∷ [])) (1 ∷ [])
+fits_17 g b = record { fn = (sink_function look); is = refl; count = refl; params = λ k r e. (let x = only_one 1 r k e in let z = number_17 g b.0 b.1 b.2 b.3 in subst (λ n. leaves first_flow n r ≡ leaves first_flow 2 k) (sym z) (subst (λ n. leaves first_flow 3 n ≡ leaves first_flow 2 k) x.1 (subst (λ n. leaves first_flow 3 1 ≡ leaves first_flow 2 n) (sym x.0) refl))); no_env = refl; results = λ to callee e. (let x : [] ≡ to = cc in ap length (sym x)); returned = λ to from callee k r s e b lv a c. (let x : [] ≡ to = cc in let y = subst (λ (xs : List ℕ). slice_get xs k ≡ Some r) (sym x) a in absurd cc) }
 
 fits_at : (i : ℕ) (kind : Kind) → IsAt first_flow i kind → (g h : ℕ) (args : List ℕ) → IsIn first_flow i g → callee_of kind ≡ Some (Static h) → args_of kind ≡ args → FitsStatic first_flow g h kind args
-fits_at = at_place look (λ i kind. (g h : ℕ) (args : List ℕ) → IsIn first_flow i g → callee_of kind ≡ Some (Static h) → args_of kind ≡ args → FitsStatic first_flow g h kind args) (λ g h args inside e a. absurd cc, (λ g h args inside e a. absurd cc, (λ g h args inside e a. (let x : 3 ≡ h = cc in subst (λ n. FitsStatic first_flow g n (Call [] (Static 3) []) args) x (subst (λ (xs : List ℕ). FitsStatic first_flow g 3 (Call [] (Static 3) []) xs) a (fits_2 g (bounds_fn 2 g inside)))), (λ g h args inside e a. absurd cc, (λ g h args inside e a. absurd cc, (λ g h args inside e a. absurd cc, (λ g h args inside e a. absurd cc, (λ g h args inside e a. absurd cc, (λ g h args inside e a. absurd cc, (λ g h args inside e a. absurd cc, (λ g h args inside e a. absurd cc, (λ g h args inside e a. absurd cc, (λ g h args inside e a. absurd cc, (λ g h args inside e a. absurd cc, (λ g h args inside e a. absurd cc, (λ g h args inside e a. (let x : 1 ≡ h = cc in subst (λ n. FitsStatic first_flow g n (Call (1 ∷ []) (Static 1) []) args) x (subst (λ (xs : List ℕ). FitsStatic first_flow g 1 (Call (1 ∷ []) (Static 1) []) xs) a (fits_15 g (bounds_fn 15 g inside)))), (λ g h args inside e a. absurd cc, (λ g h args inside e a. (let x : 2 ≡ h = cc in subst (λ n. FitsStatic first_flow g n (Call [] (Static 2) (0 ∷ [])) args) x (subst (λ (xs : List ℕ). FitsStatic first_flow g 2 (Call [] (Static 2) (0 ∷ [])) xs) a (fits_17 g (bounds_fn 17 g inside)))), (λ g h args inside e a. absurd cc, (λ g h args inside e a. absurd cc, tt))))))))))))))))))))
+fits_at = at_place look (λ i kind. (g h : ℕ) (args : List ℕ) → IsIn first_flow i g → callee_of kind ≡ Some (Static h) → args_of kind ≡ args → FitsStatic first_flow g h kind args) (λ g h args inside e a. absurd cc, (λ g h args inside e a. absurd cc, (λ g h args inside e a. (let x : 3 ≡ h = cc in subst (λ n. FitsStatic first_flow g n (Call [] (Static 3) []) args) x (subst (λ (xs : List ℕ). FitsStatic first_flow g 3 (Call [] (Static 3) []) xs) a (fits_2 g (bounds_fn 2 g inside)))), (λ g h args inside e a. absurd cc, (λ g h args inside e a. absurd cc, (λ g h args inside e a. absurd cc, (λ g h args inside e a. absurd cc, (λ g h args inside e a. absurd cc, (λ g h args inside e a. absurd cc, (λ g h args inside e a. absurd cc, (λ g h args inside e a. absurd cc, (λ g h args inside e a. absurd cc, (λ g h args inside e a. absurd cc, (λ g h args inside e a. absurd cc, (λ g h args inside e a. absurd cc, (λ g h args inside e a. (let x : 1 ≡ h = cc in subst (λ n. FitsStatic first_flow g n (Call (0 ∷ []) (Static 1) []) args) x (subst (λ (xs : List ℕ). FitsStatic first_flow g 1 (Call (0 ∷ []) (Static 1) []) xs) a (fits_15 g (bounds_fn 15 g inside)))), (λ g h args inside e a. absurd cc, (λ g h args inside e a. (let x : 2 ≡ h = cc in subst (λ n. FitsStatic first_flow g n (Call [] (Static 2) (1 ∷ [])) args) x (subst (λ (xs : List ℕ). FitsStatic first_flow g 2 (Call [] (Static 2) (1 ∷ [])) xs) a (fits_17 g (bounds_fn 17 g inside)))), (λ g h args inside e a. absurd cc, (λ g h args inside e a. absurd cc, tt))))))))))))))))))))
 
 abbrev EachInstr : (Instr → Type 0) → List Instr → Type 0
 EachInstr P [] = Unit {0}

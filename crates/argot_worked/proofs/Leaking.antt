@@ -20,14 +20,14 @@ it_leaks = (
       (one_step 0 _ refl refl (act_puts (Branch (2 ∷ [])) [] 2 refl refl refl (0, refl))))
       (one_step 0 _ refl refl (act_enters [] (Static 3) [] 3 false (main_function look) refl refl by_number refl refl)))
       (one_step 0 _ refl refl (act_puts (Goto 15) [] 15 refl refl refl (refl, refl))))
-      (one_step 0 _ refl refl (act_enters (1 ∷ []) (Static 1) [] 1 false (source_function look) refl refl by_number refl refl)))
+      (one_step 0 _ refl refl (act_enters (0 ∷ []) (Static 1) [] 1 false (source_function look) refl refl by_number refl refl)))
       (one_step 0 _ refl refl (act_puts (Goto 6) [] 6 refl refl refl (refl, refl))))
       (one_step 0 _ refl refl (act_puts (Op 1 []) (put_cell (labelled asked) same_labels 1 6 0 [] (content Scalar []) ∷ []) 7 refl refl refl refl)))
       (one_step 0 _ refl refl (act_puts (Move 0 1 []) _ 8 refl refl (one_leaf [] _ (pick_all refl) no_leaf) refl)))
       (one_step 0 _ refl refl (act_puts (Goto 9) [] 9 refl refl refl (refl, refl))))
       (one_step 0 _ refl refl (act_exits 10 refl refl refl refl)))
-      (one_step 0 _ refl refl (act_leaves (0 ∷ []) (1 ∷ []) (Static 1) [] 16 refl refl refl refl refl)))
-      (one_step 0 _ refl refl (act_puts (Move 0 1 []) _ 17 refl refl (one_leaf [] _ (pick_all refl) no_leaf) refl)),
+      (one_step 0 _ refl refl (act_leaves (0 ∷ []) (0 ∷ []) (Static 1) [] 16 refl refl refl refl refl)))
+      (one_step 0 _ refl refl (act_puts (Move 1 0 []) _ 17 refl refl (one_leaf [] _ (pick_all refl) no_leaf) refl)),
   record {
     label = mark 15 0 [];
     place = refl;
@@ -36,7 +36,7 @@ it_leaks = (
       sink = 2;
       count = 1;
       cells = _;
-      enters = by_call _ _ [] (Static 2) (0 ∷ []) false refl refl refl by_number;
+      enters = by_call _ _ [] (Static 2) (1 ∷ []) false refl refl refl by_number;
       is_one = refl;
       within = below;
       bears = record { cell = _; held = here refl; at = refl; bears = itself (here refl) };

@@ -6,3 +6,4 @@ pub mod DeferredCallRun
 pub mod CalledMethodRun
 pub mod ReadFirstRun
 pub mod FirstWell
+pub mod FirstFlowRead

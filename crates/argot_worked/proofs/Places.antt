@@ -125,16 +125,16 @@ module _ (l : Look) where
     | inr x ↦ absurd (x.1 0 (by_kind (Op 1 []) refl refl))
   ]
 
-  pub defined_16 : (d j : ℕ) → DefinedAt first_flow d j 1 16 → (d ≡ 15) × (j ≡ 0)
-  defined_16 d j h = elim (reaches_from d 1 16 15 before_16 h.reaches) [
-    | inl e ↦ (e, (one_defined 15 1 1 j (Call (1 ∷ []) (Static 1) []) refl refl inner_15 (subst (λ n. Defines first_flow n j 1) e h.defines)).0)
-    | inr x ↦ absurd (x.1 0 (by_kind (Call (1 ∷ []) (Static 1) []) refl refl))
+  pub defined_16 : (d j : ℕ) → DefinedAt first_flow d j 0 16 → (d ≡ 15) × (j ≡ 0)
+  defined_16 d j h = elim (reaches_from d 0 16 15 before_16 h.reaches) [
+    | inl e ↦ (e, (one_defined 15 0 0 j (Call (0 ∷ []) (Static 1) []) refl refl inner_15 (subst (λ n. Defines first_flow n j 0) e h.defines)).0)
+    | inr x ↦ absurd (x.1 0 (by_kind (Call (0 ∷ []) (Static 1) []) refl refl))
   ]
 
-  pub defined_17 : (d j : ℕ) → DefinedAt first_flow d j 0 17 → (d ≡ 16) × (j ≡ 0)
-  defined_17 d j h = elim (reaches_from d 0 17 16 before_17 h.reaches) [
-    | inl e ↦ (e, (one_defined 16 0 0 j (Move 0 1 []) refl refl inner_16 (subst (λ n. Defines first_flow n j 0) e h.defines)).0)
-    | inr x ↦ absurd (x.1 0 (by_kind (Move 0 1 []) refl refl))
+  pub defined_17 : (d j : ℕ) → DefinedAt first_flow d j 1 17 → (d ≡ 16) × (j ≡ 0)
+  defined_17 d j h = elim (reaches_from d 1 17 16 before_17 h.reaches) [
+    | inl e ↦ (e, (one_defined 16 1 1 j (Move 1 0 []) refl refl inner_16 (subst (λ n. Defines first_flow n j 1) e h.defines)).0)
+    | inr x ↦ absurd (x.1 0 (by_kind (Move 1 0 []) refl refl))
   ]
 
   pub defined_10 : (d j : ℕ) → DefinedAt first_flow d j 0 10 → (d ≡ 7) × (j ≡ 0)

@@ -75,7 +75,7 @@ program_of l = record {
   instrs = instr (l.place 0) (Goto 1) ∷ instr (l.place 1) (Branch (2 ∷ [])) ∷ instr (l.place 2) (Call [] (Static 3) []) ∷ instr (l.place 3) RunDefers ∷ instr (l.place 4) (Leave [])
       ∷ instr (l.place 5) (Goto 6) ∷ instr (l.place 6) (Op 1 []) ∷ instr (l.place 7) (Move 0 1 []) ∷ instr (l.place 8) (Goto 9) ∷ instr (l.place 9) RunDefers ∷ instr (l.place 10) (Leave (0 ∷ []))
       ∷ instr (l.place 11) (Goto 12) ∷ instr (l.place 12) RunDefers ∷ instr (l.place 13) (Leave [])
-      ∷ instr (l.place 14) (Goto 15) ∷ instr (l.place 15) (Call (1 ∷ []) (Static 1) []) ∷ instr (l.place 16) (Move 0 1 []) ∷ instr (l.place 17) (Call [] (Static 2) (0 ∷ [])) ∷ instr (l.place 18) RunDefers ∷ instr (l.place 19) (Leave []) ∷ [];
+      ∷ instr (l.place 14) (Goto 15) ∷ instr (l.place 15) (Call (0 ∷ []) (Static 1) []) ∷ instr (l.place 16) (Move 1 0 []) ∷ instr (l.place 17) (Call [] (Static 2) (1 ∷ [])) ∷ instr (l.place 18) RunDefers ∷ instr (l.place 19) (Leave []) ∷ [];
   sites = [];
   globals = [];
   methods = [];
@@ -129,7 +129,7 @@ its_kinds =
     Goto 1 ∷ Branch (2 ∷ []) ∷ Call [] (Static 3) [] ∷ RunDefers ∷ Leave []
     ∷ Goto 6 ∷ Op 1 [] ∷ Move 0 1 [] ∷ Goto 9 ∷ RunDefers ∷ Leave (0 ∷ [])
     ∷ Goto 12 ∷ RunDefers ∷ Leave []
-    ∷ Goto 15 ∷ Call (1 ∷ []) (Static 1) [] ∷ Move 0 1 [] ∷ Call [] (Static 2) (0 ∷ []) ∷ RunDefers ∷ Leave [] ∷ []
+    ∷ Goto 15 ∷ Call (0 ∷ []) (Static 1) [] ∷ Move 1 0 [] ∷ Call [] (Static 2) (1 ∷ []) ∷ RunDefers ∷ Leave [] ∷ []
 
 -- it has four functions and these twenty places
 abbrev pub HasTwentyPlaces : Code → Type 0

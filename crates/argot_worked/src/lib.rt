@@ -3,6 +3,7 @@
 #![tactic(auto)]
 
 ghost use Rattle.argot_worked.specs.FirstFlow.{ItLeaks, ItHasTwentyPlaces, ItHasSevenNodes, ItHasSixEdges, ItIsWellFormed};
+ghost use Rattle.argot_worked.specs.FirstFlowRead.{ItHasTheForm, ItIsDrawn};
 ghost use Rattle.argot_worked.specs.FilledBox.{ItLeaks as FilledBoxLeaks};
 ghost use Rattle.argot_worked.specs.DeferredCall.{ItEnds as DeferredCallEnds};
 ghost use Rattle.argot_worked.specs.CalledMethod.{ItEnds as CalledMethodEnds};
@@ -44,4 +45,10 @@ pub fn read_first_ends()
 /// It is well formed, so that all that is said of well-formed programs is said of it.
 pub fn first_flow_is_well_formed()
     ensures { ItIsWellFormed }
+{}
+
+/// Its bytes have the first form, and what the definitions make of them is drawn so too.
+pub fn first_flow_is_read()
+    ensures form { ItHasTheForm }
+    ensures drawn { ItIsDrawn }
 {}
