@@ -1,5 +1,5 @@
 -- The report, computed from main's steps.
-use Rattle.std.specs.Prelude.{ℕ, ◌+◌, ◌-◌, List, [], ◌∷◌, ◌++◌, length, slice_get, unwrap_or, codes}
+use Rattle.std.specs.Prelude.{◌≡◌, ℕ, ◌+◌, ◌-◌, ◌≤◌, List, [], ◌∷◌, ◌++◌, length, slice_get, slice_index_or, unwrap_or, codes}
 use Rattle.std.specs.List.{flat_map}
 use Rattle.std.specs.Fmt.{decimal}
 use Rattle.argot_text.specs.Lines.{line_of, column_of}
@@ -10,11 +10,19 @@ use Rattle.argot_first_form.specs.declared.functions.Returned.{Returned}
 use Rattle.argot_first_form.specs.declared.functions.Returned.TheVariants as returns
 use Rattle.argot_first.specs.declared.found.Flow.{Flow}
 
+abbrev pub pos_at : List ℕ → ℕ → Pos
+pos_at bytes offset = record { file = 0; line = line_of bytes offset; col = column_of bytes offset }
+
 abbrev pub position : List ℕ → Step → Pos
-position bytes s = record { file = 0; line = line_of bytes s.at; col = column_of bytes s.at }
+position bytes s = pos_at bytes s.at
 
 abbrev pub nowhere : Pos
 nowhere = record { file = 0; line = 0; col = 0 }
+
+-- the positions of the first n bytes and of the one behind them
+pub record IsTable (bytes : List ℕ) (n : ℕ) (table : List Pos) : Type 0 where
+  pub size : length table ≡ n + 1
+  pub each : (k : ℕ) → k ≤ n → slice_index_or table k nowhere ≡ pos_at bytes k
 
 abbrev pub text_at : Pos → List ℕ
 text_at p = codes "main.go:" ++ (decimal p.line ++ (codes ":" ++ decimal p.col))

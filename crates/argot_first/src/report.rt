@@ -2,12 +2,33 @@
 
 ghost use Rattle.std.specs.Prelude.{◌≡◌, ◌+◌, ◌-◌, ◌*◌, ◌<◌, ◌≤◌, ◌^◌, ◌++◌, IfOk, OnOk, length, map};
 ghost use Rattle.std.specs.List.{All};
-ghost use Rattle.argot_first.specs.Report.{position, position_at, text_at, argument_text, line, lines, whole, places_of, all_places_of};
+ghost use Rattle.argot_first.specs.Report.{IsTable, position, position_at, text_at, argument_text, line, lines, whole, places_of, all_places_of};
 
 use crate::found::Flow;
 use argot_first_form::{Function, Returned, Step};
-use argot_text::{Memory, Out, Pos, pos_of};
+use argot_text::{Memory, Out, Pos};
 use std::alloc::Global;
+
+// The positions of all bytes, in one walk.
+fn all_positions(alloc: Global, bytes: &[u8]) -> Result<Vec<Pos>, Memory>
+    requires { length bytes.now < 2 ^ 32 - 1 }
+    ensures { IfOk result (λ table. IsTable bytes.now (length bytes.now) table.items) }
+{
+    let mut line = 1;
+    let mut col = 1;
+    let mut table = Vec::new(alloc);
+    table.push(Pos { file: 0, line, col })?;
+    for byte in bytes {
+        if *byte == b'\n' {
+            line += 1;
+            col = 1;
+        } else {
+            col += 1;
+        }
+        table.push(Pos { file: 0, line, col })?;
+    }
+    Ok(table)
+}
 
 /// The positions of main's steps.
 pub fn positions(alloc: Global, bytes: &[u8], steps: &[Step]) -> Result<Vec<Pos>, Memory>
@@ -15,9 +36,10 @@ pub fn positions(alloc: Global, bytes: &[u8], steps: &[Step]) -> Result<Vec<Pos>
     requires inside { All (λ s. s.at ≤ length bytes.now) steps.now }
     ensures { IfOk result (λ ps. ps.items ≡ map (position bytes.now) steps.now) }
 {
+    let table = all_positions(alloc, bytes)?;
     let mut positions = Vec::new(alloc);
     for step in steps {
-        positions.push(pos_of(bytes, 0, step.at))?;
+        positions.push(table[step.at])?;
     }
     Ok(positions)
 }
