@@ -6,3 +6,5 @@ pub mod DeferredCallRun
 pub mod CalledMethodRun
 pub mod ReadFirstRun
 pub mod FirstWell
+pub mod CalledMethodLeak
+pub mod DeferredLiteralLeak

@@ -3,3 +3,4 @@ pub mod FilledBox
 pub mod DeferredCall
 pub mod CalledMethod
 pub mod ReadFirst
+pub mod DeferredLiteral

@@ -5,7 +5,8 @@
 ghost use Rattle.argot_worked.specs.FirstFlow.{ItLeaks, ItHasSevenNodes, ItHasSixEdges, ItIsWellFormed};
 ghost use Rattle.argot_worked.specs.FilledBox.{ItLeaks as FilledBoxLeaks};
 ghost use Rattle.argot_worked.specs.DeferredCall.{ItEnds as DeferredCallEnds};
-ghost use Rattle.argot_worked.specs.CalledMethod.{ItEnds as CalledMethodEnds};
+ghost use Rattle.argot_worked.specs.CalledMethod.{ItEnds as CalledMethodEnds, ItLeaks as CalledMethodLeaks};
+ghost use Rattle.argot_worked.specs.DeferredLiteral.{ItLeaks as DeferredLiteralLeaks};
 ghost use Rattle.argot_worked.specs.ReadFirst.{ItEnds as ReadFirstEnds};
 
 /// The first program has a run that leaks: the call of its source reaches argument 0 of its sink.
@@ -42,4 +43,14 @@ pub fn read_first_ends()
 /// It is well formed, so that all that is said of well-formed programs is said of it.
 pub fn first_flow_is_well_formed()
     ensures { ItIsWellFormed }
+{}
+
+/// The method that hands back secret data is found by the type of the value in the box: it reaches the sink.
+pub fn called_method_leaks()
+    ensures { CalledMethodLeaks }
+{}
+
+/// A deferred literal runs at the exit and reads what its captured variable holds then: secret data, which reaches the sink.
+pub fn deferred_literal_leaks()
+    ensures { DeferredLiteralLeaks }
 {}
