@@ -1,9 +1,9 @@
 -- The answer for a file of the first form.
-use Rattle.std.proofs.Common.{◌≡◌, ℕ, zero, suc, ◌+◌, ◌-◌, ◌*◌, ◌^◌, ◌<◌, ◌≤◌, List, [], ◌∷◌, ◌++◌, Option, Some, None, length, map, get_or, refl, sym, ap, ◌∙◌, subst, arith, add-one, add-zero, zero-add}
+use Rattle.std.proofs.Common.{◌≡◌, ℕ, zero, suc, ◌+◌, ◌-◌, ◌^◌, ◌<◌, ◌≤◌, List, [], ◌∷◌, ◌++◌, Some, length, map, get_or, refl, sym, ap, ◌∙◌, subst, arith, zero-add}
 use Rattle.std.specs.Prelude.{slice_get, codes, unwrap_or}
 use Rattle.std.specs.List.{All, flat_map}
 use Rattle.std.specs.Fmt.{decimal}
-use Rattle.std.proofs.lemmas.Option.{slice_get_within, slice_get-map, slice_get-get_or}
+use Rattle.std.proofs.lemmas.Option.{slice_get-map, slice_get-get_or}
 use Rattle.argot_text.specs.Lines.{line_of, column_of}
 use Rattle.argot_text.specs.declared.position.Pos.{Pos}
 use Rattle.argot_first_form.specs.Tree.{Item, Blank, Func, Void, Parameter, Fixed, File, text_of}
@@ -17,12 +17,10 @@ use Rattle.argot_first_form.proofs.Bounds as bounds
 use Rattle.argot_first_form.proofs.Programs as programs
 use Rattle.argot_first.specs.declared.kinds.Kind.{Kind}
 use Rattle.argot_first.specs.declared.found.Flow.{Flow}
-use Rattle.argot_first.specs.declared.found.Answer.TheVariants.{Report}
-use Rattle.argot_first.specs.Code.{Code, Instr, all_places, main_entry, step_instrs, code_of}
-use Rattle.argot_first.specs.Flows.{IsFlow}
-use Rattle.argot_first.specs.Answer.{AreFlows, IsReport, IsReportOf, IsAnswer, offset_in, position_text, flow_line, report}
+use Rattle.argot_first.specs.Code.{Instr, all_places, step_instrs, code_of}
+use Rattle.argot_first.specs.Answer.{AreFlows, IsReport, IsReportOf, offset_in, position_text, flow_line, report}
 use Rattle.argot_first.specs.Marks.{kinds_from, all_flows}
-use Rattle.argot_first.specs.Report.{position, position_at, text_at, argument_text, line, lines, whole, all_places_of, nowhere}
+use Rattle.argot_first.specs.Report.{position, position_at, text_at, argument_text, line, whole, all_places_of, nowhere}
 use Rattle.argot_first.proofs.Lookup.{some-same, get-left, get-right, get-at}
 use Rattle.argot_first.proofs.Blocks.{main_steps, base_of, length-items_kinds, items_kinds-is, length-kinds_of}
 use Rattle.argot_first.proofs.Exactly.{exactly}

@@ -1,24 +1,24 @@
 -- A register that is marked holds what a realizable list brings from the source.
-use Rattle.std.proofs.Common.{◌≡◌, ◌≢◌, ℕ, zero, suc, ◌+◌, ◌-◌, ◌<◌, ◌≤◌, List, [], ◌∷◌, ◌++◌, Option, Some, None, Bool, true, false, ◌||◌, length, replicate, refl, sym, ap, ◌∙◌, subst, get_or, arith, add-one, add-zero, zero-add, add_assoc, nat_eq, ◌⊎◌, inl, inr}
-use Rattle.std.specs.Prelude.{slice_get, slice_set, codes}
+use Rattle.std.proofs.Common.{◌≡◌, ◌≢◌, ℕ, zero, suc, ◌+◌, ◌-◌, ◌<◌, ◌≤◌, List, [], ◌∷◌, Option, Some, None, Bool, true, false, ◌||◌, length, replicate, refl, sym, ap, ◌∙◌, subst, get_or, arith, nat_eq, ◌⊎◌, inl, inr}
+use Rattle.std.specs.Prelude.{slice_get, slice_set}
 use Rattle.std.proofs.lemmas.Option.{slice_get_within, slice_get_cases}
 use Rattle.std.proofs.lemmas.Bool.Decides.{Decides-eqb}
 use Rattle.std.specs.Prelude.{if◌then◌else◌}
-use Rattle.std.proofs.lemmas.Bool.{cases_lt, false≢true, eqb-true}
+use Rattle.std.proofs.lemmas.Bool.{false≢true, eqb-true}
 use Rattle.argot_first_form.specs.declared.functions.Function.{Function}
 use Rattle.argot_first_form.specs.declared.functions.Returned.{Returned}
 use Rattle.argot_first_form.specs.declared.functions.Returned.TheVariants as returns
 use Rattle.argot_first.specs.declared.kinds.Kind.{Kind}
 use Rattle.argot_first.specs.declared.kinds.Kind.TheVariants.{Op, Move, Call, RunDefers, Leave, Goto, Branch}
 use Rattle.argot_first.specs.Code.{Plain, Code, number_of}
-use Rattle.argot_first.specs.Flows.{In, kind_at, IsAt, IsFunction, IsLivePlace, Live, GoesOn, Successor, Gives, IsParameter, Defines, Reaches, next, onward, Takes, Within, Enters, Returns, Edge, within, enters, returns, Joins, stay, plain, call, return_last, return_free, cleans}
+use Rattle.argot_first.specs.Flows.{IsAt, IsFunction, IsLivePlace, Live, GoesOn, Successor, Gives, IsParameter, Defines, Reaches, next, onward, Takes, within, enters, returns, Joins, stay, plain, call, return_last, cleans}
 use Rattle.argot_first.specs.Marks.{marked, marked_at, argument_at, target, set_at, carries, passes, passes_function, cleans_name, parameter_returned, no_marks}
 use Rattle.argot_first.proofs.Lookup.{some-same}
 use Rattle.argot_first.proofs.Blocks.{IsBlock, block_of, last_of}
-use Rattle.argot_first.proofs.Shape.{Shape, StepShape, IsOpening}
-use Rattle.argot_first.proofs.Before.{before, value, before-step, upto-none, upto-past, length-before, marked-same, marked-other}
-use Rattle.argot_first.proofs.Forward.{reaches-defines, same-kind}
-use Rattle.argot_first.proofs.Spread.{Steps, target-gives, target-within, step-steps, step-no-entry, defines-by, entry-kind, given-kind, one-function}
+use Rattle.argot_first.proofs.Shape.{Shape}
+use Rattle.argot_first.proofs.Before.{before, value, before-step, upto-none, length-before, marked-same, marked-other}
+use Rattle.argot_first.proofs.Forward.{same-kind}
+use Rattle.argot_first.proofs.Spread.{Steps, target-gives, target-within, step-steps, defines-by, entry-kind, given-kind}
 
 none-marked : (n r : ℕ) → marked (replicate n false) r ≡ true → ⊥
 none-marked zero r h = false≢true h

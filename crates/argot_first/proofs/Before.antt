@@ -1,8 +1,7 @@
 -- The marks before each step.
-use Rattle.std.proofs.Common.{◌≡◌, ◌≢◌, ℕ, zero, suc, ◌+◌, ◌-◌, ◌<◌, ◌≤◌, List, [], ◌∷◌, ◌++◌, Option, Some, None, Bool, true, false, ◌||◌, length, set, replicate, refl, sym, ap, ◌∙◌, subst, arith, add-one, add-zero, zero-add, nat_eq, length-set}
+use Rattle.std.proofs.Common.{◌≡◌, ◌≢◌, ℕ, zero, suc, ◌+◌, ◌<◌, ◌≤◌, List, [], ◌∷◌, Option, Some, None, Bool, false, ◌||◌, length, refl, ap, ◌∙◌, arith, add-zero, zero-add, nat_eq, length-set}
 use Rattle.std.proofs.lemmas.List.{length-replicate}
-use Rattle.std.proofs.Math.Nat.{suc-add, add-suc}
-use Rattle.std.specs.Prelude.{slice_get, slice_set, unwrap_or}
+use Rattle.std.specs.Prelude.{slice_get, slice_set}
 use Rattle.argot_first_form.specs.declared.functions.Function.{Function}
 use Rattle.argot_first.specs.declared.kinds.Kind.{Kind}
 use Rattle.argot_first.specs.Marks.{marked, set_at, target, carries, marks_after, no_marks}

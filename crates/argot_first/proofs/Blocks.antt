@@ -1,18 +1,18 @@
 -- Where the functions of a program stand.
-use Rattle.std.proofs.Common.{◌≡◌, ℕ, zero, suc, ◌+◌, ◌-◌, ◌<◌, ◌≤◌, List, [], ◌∷◌, ◌++◌, Option, Some, None, length, map, drop, refl, sym, ap, ◌∙◌, subst, arith, add-one, add-zero, zero-add, add_assoc, append_assoc, ◌⊎◌, inl, inr, length-append}
+use Rattle.std.proofs.Common.{◌≡◌, ℕ, zero, suc, ◌+◌, ◌<◌, List, [], ◌∷◌, ◌++◌, Some, length, refl, ap, ◌∙◌, arith, add-zero, add_assoc, ◌⊎◌, inl, inr}
 use Rattle.std.specs.Prelude.{slice_get, codes}
-use Rattle.argot_first_form.specs.Tree.{Atom, Parameter, Fixed, Item, Blank, Func, Void, File, items_text, text_of}
-use Rattle.argot_first_form.specs.Steps.{functions_of, steps_of, returned_of}
+use Rattle.argot_first_form.specs.Tree.{Parameter, Fixed, Item, Blank, Func, Void, File, text_of}
+use Rattle.argot_first_form.specs.Steps.{functions_of, steps_of}
 use Rattle.argot_first_form.specs.declared.functions.Function.{Function}
 use Rattle.argot_first_form.specs.declared.functions.Returned.{Returned}
 use Rattle.argot_first_form.specs.declared.functions.Returned.TheVariants as returns
 use Rattle.argot_first_form.specs.declared.steps.Step.{Step}
 use Rattle.argot_first.specs.declared.kinds.Kind.{Kind}
 use Rattle.argot_first.specs.declared.kinds.Kind.TheVariants.{Op, Move, Call, RunDefers, Leave, Goto, Branch}
-use Rattle.argot_first.specs.Code.{Instr, Plain, Code, places, all_places, number_of, item_instrs, items_instrs, item_functions, items_functions, step_instrs, entry_instrs, main_instrs, main_entry, main_name, entry_function, main_function, code_of, kind_of}
-use Rattle.argot_first.specs.Flows.{kind_in, kind_at, IsAt, IsFunction}
+use Rattle.argot_first.specs.Code.{Instr, Plain, Code, all_places, number_of, items_instrs, items_functions, step_instrs, main_instrs, main_entry, main_name, code_of, kind_of}
+use Rattle.argot_first.specs.Flows.{kind_in, kind_at, IsAt}
 use Rattle.argot_first.specs.Marks.{kinds_from}
-use Rattle.argot_first.proofs.Lookup.{some-same, get-left, get-right, get-at, get-either}
+use Rattle.argot_first.proofs.Lookup.{get-left, get-right, get-at, get-either}
 
 -- the kinds of a function from this place on, by what it gives back
 abbrev pub block_of : List (List ℕ) → Returned → ℕ → List Kind

@@ -1,5 +1,5 @@
 -- The computed list is exactly the flows.
-use Rattle.std.proofs.Common.{◌≡◌, ℕ, zero, suc, ◌+◌, ◌-◌, ◌<◌, ◌≤◌, List, [], ◌∷◌, ◌++◌, Option, Some, None, Bool, true, false, ◌||◌, length, refl, sym, ap, ◌∙◌, subst, arith, add-one, add-zero, zero-add, ◌⊎◌, inl, inr, nat_eq}
+use Rattle.std.proofs.Common.{◌≡◌, ℕ, ◌+◌, ◌-◌, ◌<◌, List, [], ◌∷◌, Some, Bool, true, false, ◌||◌, length, refl, sym, ap, ◌∙◌, subst, arith, add-one, zero-add, ◌⊎◌, inl, inr, nat_eq}
 use Rattle.std.specs.Prelude.{slice_get, codes}
 use Rattle.std.proofs.lemmas.Option.{slice_get_within}
 use Rattle.std.proofs.lemmas.Bool.{false≢true}
@@ -9,16 +9,16 @@ use Rattle.argot_first.specs.declared.kinds.Kind.{Kind}
 use Rattle.argot_first.specs.declared.kinds.Kind.TheVariants.{Op, Move, Call, RunDefers, Leave, Goto, Branch}
 use Rattle.argot_first.specs.declared.found.Flow.{Flow}
 use Rattle.argot_first.specs.Code.{Plain, Code, number_of}
-use Rattle.argot_first.specs.Flows.{IsAt, IsFunction, IsLivePlace, is_source, is_sink, Calls, IsFlow, Joins}
-use Rattle.argot_first.specs.Answer.{AreFlows, IsBefore}
-use Rattle.argot_first.specs.Marks.{marked, target, carries, calls_named, counts_as, named_sink, named_source, arguments_of, flows_from, all_flows, no_marks}
+use Rattle.argot_first.specs.Flows.{IsAt, IsFunction, is_source, is_sink, Calls, IsFlow}
+use Rattle.argot_first.specs.Answer.{AreFlows}
+use Rattle.argot_first.specs.Marks.{marked, target, calls_named, counts_as, named_sink, named_source, arguments_of, flows_from, all_flows, no_marks}
 use Rattle.argot_first.proofs.Lookup.{some-same}
-use Rattle.argot_first.proofs.Shape.{Shape, StepShape, IsOpening}
+use Rattle.argot_first.proofs.Shape.{Shape, IsOpening}
 use Rattle.argot_first.proofs.Before.{before, value}
 use Rattle.argot_first.proofs.Spread.{Inv, at_result, at_argument, at_parameter, at_moved, at_left, spread-all, step-is, entered-argument, entry-kind, given-kind}
-use Rattle.argot_first.proofs.Backward.{Held, held, taken}
+use Rattle.argot_first.proofs.Backward.{held, taken}
 use Rattle.argot_first.proofs.Forward.{same-kind}
-use Rattle.argot_first.proofs.Listed.{flow, Has, Chain, chain-next, Sunk, Sourced, all-sound, all-complete, all-chain, from-complete}
+use Rattle.argot_first.proofs.Listed.{flow, Has, chain-next, Sunk, all-sound, all-complete, all-chain, from-complete}
 
 -- a step that counts calls a function of such a name
 pub record Counted (code : Code) (functions : List Function) (kinds : List Kind) (base j : ℕ) (kind : Kind) (counts : Plain → Bool) : Type 0 where

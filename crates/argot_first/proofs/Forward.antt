@@ -1,19 +1,14 @@
 -- A realizable list from a source's result leads only to what the marks say.
-use Rattle.std.proofs.Common.{◌≡◌, ◌≢◌, ℕ, zero, suc, ◌+◌, ◌-◌, ◌<◌, ◌≤◌, List, [], ◌∷◌, ◌++◌, Option, Some, None, Bool, true, false, ◌||◌, length, refl, sym, ap, ◌∙◌, subst, arith, add-one, add-zero, zero-add, add_assoc, nat_eq, ◌⊎◌, inl, inr}
-use Rattle.std.specs.Prelude.{slice_get, codes}
-use Rattle.std.proofs.lemmas.Option.{slice_get_within}
+use Rattle.std.proofs.Common.{◌≡◌, ℕ, zero, suc, ◌+◌, ◌<◌, ◌≤◌, List, [], ◌∷◌, Some, length, refl, sym, ◌∙◌, subst, arith}
+use Rattle.std.specs.Prelude.{slice_get}
 use Rattle.argot_first_form.specs.declared.functions.Function.{Function}
 use Rattle.argot_first_form.specs.declared.functions.Returned.{Returned}
 use Rattle.argot_first_form.specs.declared.functions.Returned.TheVariants as returns
 use Rattle.argot_first.specs.declared.kinds.Kind.{Kind}
-use Rattle.argot_first.specs.declared.kinds.Kind.TheVariants.{Op, Move, Call, RunDefers, Leave, Goto, Branch}
 use Rattle.argot_first.specs.Code.{Plain, Code, number_of}
-use Rattle.argot_first.specs.Flows.{In, kind_at, IsAt, IsFunction, GoesOn, Successor, Gives, IsParameter, Defines, Reaches, next, onward, Takes, Within, Enters, Returns, Edge, within, enters, returns, Joins, stay, plain, call, return_last, return_free}
-use Rattle.argot_first.specs.Marks.{marked, target, set_at, carries, passes, passes_function}
+use Rattle.argot_first.specs.Flows.{IsAt, GoesOn, Defines, Reaches, next, onward, Takes}
 use Rattle.argot_first.proofs.Lookup.{some-same}
 use Rattle.argot_first.proofs.Blocks.{IsBlock, block_of, last_of}
-use Rattle.argot_first.proofs.Shape.{Shape, StepShape, IsOpening}
-use Rattle.argot_first.proofs.Before.{before, value, before-step, upto-past, length-before, marked-same, marked-other}
 
 pub reaches-defines : (code : Code) (d k r i : ℕ) → Reaches code d k r i → Defines code d k r
 reaches-defines code d k r i (next h s) = h

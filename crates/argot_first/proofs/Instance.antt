@@ -1,7 +1,7 @@
 -- The code of a program of the first form has the shape that its flows rest on.
-use Rattle.std.proofs.Common.{◌≡◌, ℕ, zero, suc, ◌+◌, ◌-◌, ◌<◌, ◌≤◌, List, [], ◌∷◌, ◌++◌, Option, Some, None, Bool, true, false, not, cond, ◌&&◌, length, map, take, refl, sym, ap, ◌∙◌, subst, arith, add-one, add-zero, zero-add, ◌⊎◌, inl, inr}
+use Rattle.std.proofs.Common.{◌≡◌, ℕ, zero, suc, ◌+◌, ◌<◌, ◌≤◌, List, [], ◌∷◌, ◌++◌, Option, Some, None, Bool, true, false, not, cond, length, map, take, refl, sym, ap, ◌∙◌, subst, arith, add-one, add-zero, zero-add, ◌⊎◌, inl, inr}
 use Rattle.std.specs.Prelude.{slice_get, codes, if◌then◌else◌}
-use Rattle.std.specs.List.{position_or_len, prefix_len, list_any, list_all, find}
+use Rattle.std.specs.List.{position_or_len, list_any, list_all}
 use Rattle.std.specs.Str.{bytes_eq}
 use Rattle.std.proofs.lemmas.Option.{slice_get_within}
 use Rattle.std.proofs.lemmas.List.Folds.{find_at, list_any-append}
@@ -11,7 +11,7 @@ use Rattle.argot_first_form.proofs.Pieces.{and-left, and-right}
 use Rattle.std.proofs.lemmas.Bool.{false≢true, eqb-true}
 use Rattle.argot_first_form.specs.Tree.{File}
 use Rattle.argot_first_form.specs.Steps.{functions_of, steps_of}
-use Rattle.argot_first_form.specs.Form.{IsFirstForm, FunctionsFit, StepsFit, among, declared, declared_by, each_step, assigns_old, calls_known, has_parameters, named, has_result, is_nothing, returns_own}
+use Rattle.argot_first_form.specs.Form.{FunctionsFit, StepsFit, among, declared, declared_by, each_step, assigns_old, calls_known, has_parameters, named, has_result, is_nothing, returns_own}
 use Rattle.argot_first_form.specs.declared.functions.Function.{Function}
 use Rattle.argot_first_form.specs.declared.functions.Returned.{Returned}
 use Rattle.argot_first_form.specs.declared.functions.Returned.TheVariants as returns
@@ -20,12 +20,12 @@ use Rattle.argot_first_form.specs.declared.steps.Action.TheVariants as actions
 use Rattle.argot_first_form.specs.declared.steps.Operand.{Operand}
 use Rattle.argot_first_form.specs.declared.steps.Step.{Step}
 use Rattle.argot_first.specs.declared.kinds.Kind.{Kind}
-use Rattle.argot_first.specs.declared.kinds.Kind.TheVariants.{Op, Move, Call, RunDefers, Leave, Goto, Branch}
-use Rattle.argot_first.specs.Code.{Plain, Code, number_of, variable, register, function_number, kind_of, items_functions, main_entry, main_number, entry_function, main_function, code_of}
+use Rattle.argot_first.specs.declared.kinds.Kind.TheVariants.{Call, RunDefers, Leave, Goto}
+use Rattle.argot_first.specs.Code.{Plain, variable, register, kind_of, items_functions, main_entry, main_number, entry_function, main_function, code_of}
 use Rattle.argot_first.specs.Flows.{kind_at, IsAt, IsFunction, IsIn, Live, opening, called, IsLivePlace}
 use Rattle.argot_first.specs.Marks.{kinds_from}
-use Rattle.argot_first.proofs.Lookup.{some-same, get-left, get-right, get-at, get-either}
-use Rattle.argot_first.proofs.Blocks.{IsBlock, FoundBlock, found-block, length-plains, block_of, last_of, main_steps, main_kinds, all_kinds, entry_kinds, items_kinds, length-items_kinds, items-call-none, items-stand, main-stand, kind_at-is, base_of, step-at, end-at}
+use Rattle.argot_first.proofs.Lookup.{some-same, get-left, get-at, get-either}
+use Rattle.argot_first.proofs.Blocks.{IsBlock, length-plains, block_of, last_of, main_steps, main_kinds, all_kinds, entry_kinds, items_kinds, length-items_kinds, items-call-none, main-stand, kind_at-is, base_of, step-at, end-at}
 use Rattle.argot_first.proofs.Shape.{Shape, StepShape, IsOpening, is-block, found-at, which, Which, the_entry, an_item, the_main}
 
 -- the first that passes is within the list, where one passes

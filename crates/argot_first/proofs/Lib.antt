@@ -4,6 +4,9 @@ pub mod Lookup
 pub mod Blocks
 pub mod Shape
 pub mod Before
+pub mod Along
+pub mod Agree
+pub mod Buckets
 pub mod Forward
 pub mod Spread
 pub mod Backward

@@ -1,5 +1,5 @@
 -- The pieces of a flow's line, joined.
-use Rattle.std.proofs.Common.{◌≡◌, ℕ, List, ◌++◌, refl, ap, sym, ◌∙◌, append_assoc}
+use Rattle.std.proofs.Common.{◌≡◌, ℕ, List, ◌++◌, append_assoc}
 use Rattle.std.specs.Prelude.{codes}
 use Rattle.argot_text.specs.declared.position.Pos.{Pos}
 use Rattle.argot_first.specs.declared.found.Flow.{Flow}

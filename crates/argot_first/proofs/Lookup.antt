@@ -1,5 +1,5 @@
 -- Elements of joined lists.
-use Rattle.std.proofs.Common.{◌≡◌, ℕ, zero, suc, ◌+◌, ◌-◌, ◌<◌, ◌≤◌, List, [], ◌∷◌, ◌++◌, Option, Some, None, length, map, refl, sym, ap, ◌∙◌, subst, arith, add-one, add-zero, zero-add, ◌⊎◌, inl, inr, length-append}
+use Rattle.std.proofs.Common.{◌≡◌, ℕ, zero, suc, ◌+◌, List, [], ◌∷◌, ◌++◌, Some, length, refl, sym, ap, ◌∙◌, arith, zero-add, ◌⊎◌, inl, inr}
 use Rattle.std.proofs.Math.Nat.{suc-add}
 use Rattle.std.specs.Prelude.{slice_get}
 

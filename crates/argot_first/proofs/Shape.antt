@@ -1,18 +1,17 @@
 -- What the flows of a program rest on: where its functions and main's steps stand.
-use Rattle.std.proofs.Common.{◌≡◌, ℕ, zero, suc, ◌+◌, ◌-◌, ◌<◌, ◌≤◌, List, [], ◌∷◌, ◌++◌, Option, Some, None, Bool, true, false, length, map, refl, sym, ap, ◌∙◌, subst, arith, add-one, add-zero, zero-add, add_assoc, ◌⊎◌, inl, inr}
+use Rattle.std.proofs.Common.{◌≡◌, ℕ, zero, suc, ◌+◌, ◌<◌, ◌≤◌, List, [], ◌∷◌, Some, length, refl, sym, ◌∙◌, subst, arith, add-one, ◌⊎◌, inl, inr}
 use Rattle.std.specs.Prelude.{slice_get, codes}
 use Rattle.std.proofs.lemmas.Option.{slice_get_within}
-use Rattle.argot_first_form.specs.Tree.{File, text_of}
-use Rattle.argot_first_form.specs.Steps.{functions_of, steps_of}
+use Rattle.argot_first_form.specs.Tree.{File}
+use Rattle.argot_first_form.specs.Steps.{functions_of}
 use Rattle.argot_first_form.specs.declared.functions.Function.{Function}
-use Rattle.argot_first_form.specs.declared.functions.Returned.{Returned}
 use Rattle.argot_first_form.specs.declared.functions.Returned.TheVariants as returns
 use Rattle.argot_first.specs.declared.kinds.Kind.{Kind}
 use Rattle.argot_first.specs.declared.kinds.Kind.TheVariants.{Op, Move, Call, RunDefers, Leave, Goto, Branch}
-use Rattle.argot_first.specs.Code.{Plain, Code, number_of, items_functions, main_entry, main_number, entry_function, main_function, code_of}
-use Rattle.argot_first.specs.Flows.{kind_at, IsAt, IsFunction, IsIn, Live, opening, called, IsLivePlace}
-use Rattle.argot_first.proofs.Lookup.{some-same, get-left, get-right, get-at, get-either}
-use Rattle.argot_first.proofs.Blocks.{IsBlock, FoundBlock, found-block, length-plains, block_of, last_of, main_steps, main_kinds, all_kinds, entry_kinds, items_kinds, length-items_kinds, items-call-none, items-stand, main-stand, kind_at-is, base_of, step-at, end-at}
+use Rattle.argot_first.specs.Code.{Plain, Code, number_of, items_functions, main_number, entry_function, main_function, code_of}
+use Rattle.argot_first.specs.Flows.{IsAt, IsFunction, Live, IsLivePlace}
+use Rattle.argot_first.proofs.Lookup.{some-same, get-either}
+use Rattle.argot_first.proofs.Blocks.{IsBlock, FoundBlock, found-block, length-plains, all_kinds, items-stand, kind_at-is}
 
 -- a Call of the opening function is one of main, which has its own name
 pub record IsOpening (code : Code) (i g : ℕ) : Type 0 where

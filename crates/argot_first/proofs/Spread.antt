@@ -1,6 +1,6 @@
 -- What an edge leads to, from what the marks say of its start.
-use Rattle.std.proofs.Common.{◌≡◌, ◌≢◌, ℕ, zero, suc, ◌+◌, ◌-◌, ◌<◌, ◌≤◌, List, [], ◌∷◌, ◌++◌, Option, Some, None, Bool, true, false, ◌||◌, length, refl, sym, ap, ◌∙◌, subst, get_or, arith, add-one, add-zero, zero-add, add_assoc, nat_eq, ◌⊎◌, inl, inr}
-use Rattle.std.specs.Prelude.{slice_get, codes}
+use Rattle.std.proofs.Common.{◌≡◌, ℕ, zero, suc, ◌+◌, ◌-◌, ◌<◌, ◌≤◌, List, [], ◌∷◌, Option, Some, None, Bool, true, false, ◌||◌, length, refl, sym, ap, ◌∙◌, subst, get_or, arith, add-zero, ◌⊎◌, inl, inr}
+use Rattle.std.specs.Prelude.{slice_get}
 use Rattle.std.proofs.lemmas.Option.{slice_get_within, slice_get_cases}
 use Rattle.std.proofs.lemmas.Bool.{cases_lt}
 use Rattle.argot_first_form.specs.declared.functions.Function.{Function}
@@ -10,10 +10,10 @@ use Rattle.argot_first.specs.declared.kinds.Kind.{Kind}
 use Rattle.argot_first.specs.declared.kinds.Kind.TheVariants.{Op, Move, Call, RunDefers, Leave, Goto, Branch}
 use Rattle.argot_first.specs.Code.{Plain, Code, number_of}
 use Rattle.argot_first.specs.Flows.{In, kind_at, IsAt, IsFunction, GoesOn, Successor, Gives, IsParameter, Defines, Reaches, next, onward, Takes, Within, Enters, Returns, Edge, within, enters, returns, Joins, stay, plain, call, return_last, return_free, cleans}
-use Rattle.argot_first.specs.Marks.{marked, marked_at, argument_at, target, set_at, carries, passes, passes_function, cleans_name, parameter_returned}
+use Rattle.argot_first.specs.Marks.{marked, target, set_at, carries, passes, cleans_name}
 use Rattle.argot_first.proofs.Lookup.{some-same}
 use Rattle.argot_first.proofs.Blocks.{IsBlock, block_of, last_of}
-use Rattle.argot_first.proofs.Shape.{Shape, StepShape, IsOpening}
+use Rattle.argot_first.proofs.Shape.{Shape, StepShape}
 use Rattle.argot_first.proofs.Before.{before, value, before-step, upto-past, length-before, marked-same, marked-other}
 use Rattle.argot_first.proofs.Forward.{reaches-defines, same-kind, block-next, block-has, block-takes, result-takes}
 

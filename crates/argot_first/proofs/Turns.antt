@@ -1,11 +1,11 @@
 -- One step more of the computed flows.
-use Rattle.std.proofs.Common.{◌≡◌, ℕ, zero, suc, ◌+◌, ◌<◌, ◌≤◌, List, [], ◌∷◌, ◌++◌, Bool, true, false, length, drop, get_or, refl, arith, add-one, append_assoc, append-nil, if◌then◌else◌}
+use Rattle.std.proofs.Common.{◌≡◌, ℕ, ◌+◌, ◌<◌, ◌≤◌, List, ◌++◌, Bool, length, drop, get_or, refl, add-one, append_assoc, append-nil}
 use Rattle.std.proofs.Math.Seq.{drop-cons}
 use Rattle.std.proofs.Math.ListN.{drop_of_length-le}
 use Rattle.argot_first_form.specs.declared.functions.Function.{Function}
 use Rattle.argot_first.specs.declared.kinds.Kind.{Kind}
 use Rattle.argot_first.specs.declared.found.Flow.{Flow}
-use Rattle.argot_first.specs.Marks.{named_source, calls_named, step_flows, marks_after, flows_from, source_flows, all_flows}
+use Rattle.argot_first.specs.Marks.{step_flows, marks_after, flows_from, source_flows, all_flows}
 
 pub flows_from_more : (functions : List Function) (base s i : ℕ) (marks : List Bool) (kinds : List Kind) (old : List Flow) (d : Kind) → i < length kinds → old ++ flows_from functions base s i marks (drop i kinds) ≡ (old ++ step_flows functions (base + s) (base + i) marks (get_or kinds i d)) ++ flows_from functions base s (i + 1) (marks_after functions s i marks (get_or kinds i d)) (drop (i + 1) kinds)
 unfolding flows_from

@@ -1,5 +1,5 @@
 -- The plain code of a program of the first form.
-use Rattle.std.specs.Prelude.{ℕ, ◌+◌, List, [], ◌∷◌, ◌++◌, length, map, drop, Bool, true, false, Option, Some, None, if◌then◌else◌, codes}
+use Rattle.std.specs.Prelude.{ℕ, ◌+◌, List, [], ◌∷◌, ◌++◌, length, map, drop, if◌then◌else◌, codes}
 use Rattle.std.specs.List.{position_or_len}
 use Rattle.std.specs.Str.{bytes_eq}
 use Rattle.argot_first_form.specs.declared.steps.Operand.{Operand}
@@ -8,7 +8,7 @@ use Rattle.argot_first_form.specs.declared.steps.Action.{Action}
 use Rattle.argot_first_form.specs.declared.steps.Action.TheVariants as actions
 use Rattle.argot_first_form.specs.declared.steps.Step.{Step}
 use Rattle.argot_first_form.specs.declared.functions.Function.{Function}
-use Rattle.argot_first_form.specs.Tree.{Atom, Parameter, Fixed, atom_text, Item, Blank, Func, Void, item_text, items_text, body_text, blanks_text, File, text_of}
+use Rattle.argot_first_form.specs.Tree.{Parameter, Fixed, atom_text, Item, Blank, Func, Void, item_text, items_text, body_text, blanks_text, File, text_of}
 use Rattle.argot_first_form.specs.Steps.{offset_of, functions_of, steps_of}
 use Rattle.argot_first_form.specs.Form.{among, declared_by, named, has_result}
 use Rattle.argot_first.specs.declared.kinds.Kind.{Kind}

@@ -1,5 +1,5 @@
 -- The flows of main, computed: which registers hold data of one source's call before each step.
-use Rattle.std.specs.Prelude.{◌≡◌, ℕ, ◌+◌, ◌-◌, List, [], ◌∷◌, ◌++◌, length, replicate, Bool, true, false, not, ◌&&◌, ◌||◌, ◌==◌, Option, Some, None, slice_get, slice_set, unwrap_or, if◌then◌else◌, codes}
+use Rattle.std.specs.Prelude.{ℕ, ◌+◌, ◌-◌, List, [], ◌∷◌, ◌++◌, length, replicate, Bool, false, not, ◌&&◌, ◌||◌, ◌==◌, Option, Some, None, slice_get, slice_set, unwrap_or, if◌then◌else◌, codes}
 use Rattle.std.specs.Str.{bytes_eq}
 use Rattle.argot_first_form.specs.declared.steps.Step.{Step}
 use Rattle.argot_first_form.specs.declared.functions.Function.{Function}

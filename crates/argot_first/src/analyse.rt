@@ -4,9 +4,9 @@ ghost use Rattle.std.specs.Prelude.{IfOk};
 ghost use Rattle.argot_first_form.specs.Whole.{IsProgram};
 ghost use Rattle.argot_first.specs.Answer.{IsAnswer};
 
+use crate::flows::flows;
 use crate::found::Answer;
 use crate::lowering::lower;
-use crate::marks::flows;
 use crate::report::{all_places, positions, report};
 use argot_first_form::{Program, read};
 use argot_text::Memory;

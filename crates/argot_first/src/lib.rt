@@ -4,10 +4,12 @@
 #![tactic(auto)]
 
 mod analyse;
+mod calls;
+mod flows;
 mod found;
 mod kinds;
+mod links;
 mod lowering;
-mod marks;
 mod report;
 
 pub use analyse::analyse_first;

@@ -1,6 +1,5 @@
-use Rattle.std.proofs.Common.{rules, ◌≡◌, ◌+◌, ◌≤◌, length, sym, ap, ◌∙◌, subst}
+use Rattle.std.proofs.Common.{rules, ◌+◌, ◌≤◌, length, sym, subst}
 use Rattle.argot_first.proofs.Answers.{few_functions, reported}
-use Rattle.argot_first.specs.Marks.{kinds_from, all_flows}
 use Rattle.argot_first.proofs.analyse.answer.Goals as goal
 
 pub all_places-base-requires : goal.all_places-base-requires
