@@ -99,7 +99,7 @@ param-by n k j h = param-case (nat_lt k n) refl h
     param-case false e h = absurd cc
 
 module _ (code : First.Code) where
-  counts-as : (test : First.Plain → Bool) (i g : ℕ) (f : First.Plain) → Old.IsFunction code g f → counts (whole_of code) i g (numbers_of test 0 code.functions) ≡ test f
+  pub counts-as : (test : First.Plain → Bool) (i g : ℕ) (f : First.Plain) → Old.IsFunction code g f → counts (whole_of code) i g (numbers_of test 0 code.functions) ≡ test f
   counts-as test i g f is =
       let ns = numbers_of test 0 code.functions in
       let a : not (is_left_out (whole_of code) i) ≡ true = not-left _ (in_wrapper i (map whole_function code.functions)) (no-wrapper i code.functions) in
@@ -107,7 +107,7 @@ module _ (code : First.Code) where
       let c : member g ns ≡ test f = ap (λ z. member z ns) (sym (zero-add g)) ∙ numbered test 0 g f code.functions is in
       ap (λ (z : Bool). z && is_among (stands_for (whole_of code) g) ns) a ∙ (ap (λ o. is_among o ns) b ∙ c)
 
-  cleans-as : (i g : ℕ) (f : First.Plain) → Old.IsFunction code g f → cleans (whole_of code) (asked code) i g ≡ Old.cleans f
+  pub cleans-as : (i g : ℕ) (f : First.Plain) → Old.IsFunction code g f → cleans (whole_of code) (asked code) i g ≡ Old.cleans f
   cleans-as i g f is = ap (λ (z : Bool). z && not (is_source (whole_of code) (asked code) i g)) (counts-as is_sanitizer i g f is) ∙ ap (λ (z : Bool). is_sanitizer f && not z) (counts-as Old.is_source i g f is)
 
   -- a call by number of a live place

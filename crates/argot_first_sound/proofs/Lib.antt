@@ -4,4 +4,5 @@ pub mod Fitting
 pub mod Well
 pub mod Operands
 pub mod Fits
+pub mod Drawing
 pub mod Conclusion

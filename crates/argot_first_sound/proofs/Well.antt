@@ -185,7 +185,7 @@ module _ (code : First.Code) (ok : Fitting code) where
     pub body : Body code function
     pub good : Good code function i kind
 
-  good-at : (i g : ℕ) (kind : Kind) → IsIn (whole_of code) i g → IsAt (whole_of code) i kind → Here i g kind
+  pub good-at : (i g : ℕ) (kind : Kind) → IsIn (whole_of code) i g → IsAt (whole_of code) i kind → Here i g kind
   good-at i g kind inside at =
       let f = inside-back code i g inside in
       let b = ok.bodies g f.0 f.1 in
@@ -194,13 +194,13 @@ module _ (code : First.Code) (ok : Fitting code) where
   covered : (i : ℕ) (kind : Kind) → IsAt (whole_of code) i kind → Covers code.functions i
   covered i kind at = let s = stands code i kind at in chain-cover 0 (length code.instrs) code.functions i ok.chain (omega arith) (kind-within code.instrs i s.kind_there s.is_at)
 
-  inside-there : (i g : ℕ) (f : First.Plain) → Old.IsFunction code g f → Old.IsIn i f → IsIn (whole_of code) i g
+  pub inside-there : (i g : ℕ) (f : First.Plain) → Old.IsFunction code g f → Old.IsIn i f → IsIn (whole_of code) i g
   inside-there i g f is inside = record { fn = whole_function f; is = function-there code g f is; low = inside.0; high = inside.1 }
 
-  good-somewhere : (i : ℕ) (kind : Kind) → IsAt (whole_of code) i kind → (g : ℕ) × Here i g kind
+  pub good-somewhere : (i : ℕ) (kind : Kind) → IsAt (whole_of code) i kind → (g : ℕ) × Here i g kind
   good-somewhere i kind at = let c = covered i kind at in (c.number, good-at i c.number kind (inside-there i c.number c.function c.is c.inside) at)
 
-  leaves-at : (g r : ℕ) (f : First.Plain) → Old.IsFunction code g f → r < registers_of f → leaves (whole_of code) g r ≡ one_leaf
+  pub leaves-at : (g r : ℕ) (f : First.Plain) → Old.IsFunction code g f → r < registers_of f → leaves (whole_of code) g r ≡ one_leaf
   leaves-at g r f is h = ap (λ o. leaves_in o r) (function-there code g f is) ∙ leaf-get f (registers_of f) r h
 
   -- a function of the whole program is one of the code

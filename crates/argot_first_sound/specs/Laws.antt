@@ -20,6 +20,10 @@ IsWellFormed = (file : File) (bytes : List ℕ) → IsFirstForm file bytes → W
 abbrev pub FlowsAreFlows : Type 0
 FlowsAreFlows = (code : First.Code) (s t k : ℕ) → Flow (whole_of code) (asked code) s t k → IsFlow code s t k
 
+-- each flow of the code of a program of the first form is a flow of the whole program: nothing is missed, nothing is added
+abbrev pub FlowsAreWholeFlows : Type 0
+FlowsAreWholeFlows = (file : File) (bytes : List ℕ) → IsFirstForm file bytes → (s t k : ℕ) → IsFlow (First.code_of file) s t k → Flow (whole_of (First.code_of file)) (asked (First.code_of file)) s t k
+
 -- a run of the code of this many steps leads to this state
 abbrev pub IsRun : First.Code → ℕ → State → Type 0
 IsRun code n x = Run (whole_of code) (labelled (asked code)) n x

@@ -1,5 +1,5 @@
 -- The answers that are due, from what the calls on the files say.
-use Rattle.std.proofs.Common.{◌≡◌, ℕ, List, ◌++◌, Option, Some, None, Result, Ok, Err, sym, ◌∙◌, ap, subst, codes, IfOk, IfSome}
+use Rattle.std.proofs.Common.{◌≡◌, ℕ, List, ◌++◌, Option, Some, Result, Ok, Err, sym, ◌∙◌, ap, subst, codes, IfOk}
 use Rattle.argot_io.specs.Faults.{Rose}
 use Rattle.argot_io.specs.Told.{Entry, ListsTold, ReadsTold}
 use Rattle.argot_io.specs.declared.files.FilesCall.TheVariants.{Reading}

@@ -1,7 +1,7 @@
 -- A clean end comes from a report of no flow, and each leak of a run would be one.
 use Rattle.std.proofs.Common.{◌≡◌, ℕ, zero, suc, List, Some}
 use Rattle.argot_first_sound.proofs.Conclusion.{clean}
-use Rattle.argot_run.specs.Due.{Due, DueToFolder, Outside, status_of, no_source, other_files, other_text, analysed, not_listed, not_read, wrong_words, of_folder}
+use Rattle.argot_run.specs.Due.{Due, DueToFolder, Outside, no_source, other_files, other_text, analysed, not_listed, not_read, wrong_words, of_folder}
 use Rattle.argot_run.specs.Ends.{Delivers, Ends, Sunk, reported, told, out_failed, err_failed, answered, no_memory}
 use Rattle.argot_run.specs.Safe.{IsSafe}
 use Rattle.argot_run.specs.Words.{asked}

@@ -4,5 +4,6 @@ pub mod Due
 pub mod Ends
 pub mod Listed
 pub mod Safe
+pub mod Exact
 pub mod Texts
 pub mod Words

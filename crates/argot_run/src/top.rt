@@ -1,8 +1,9 @@
 // The top call.
-ghost use Rattle.argot_run.specs.Ends.{Ends};
+ghost use Rattle.argot_run.specs.Ends.{Ends, is_report};
+ghost use Rattle.argot_run.specs.Exact.{IsExact};
 ghost use Rattle.argot_run.specs.Safe.{IsSafe};
 ghost use Rattle.argot_run.specs.declared.status.Status.{Status};
-ghost use Rattle.std.specs.Prelude.{◌≡◌};
+ghost use Rattle.std.specs.Prelude.{◌≡◌, true};
 
 use crate::Status;
 use crate::answer::answer_to;
@@ -32,6 +33,11 @@ pub fn argot<X: Threads + Sync, F: Files, O: Sink, E: Sink>(
     // The headline: after a clean end no run of the program leaks, in whatever order its goroutines take turns.
     ensures clean { result ≡ Status.Clean → IsSafe words.now
         (record { told = F.told files.old; before = F.faults files.old; now = F.faults files.new; last = F.last files.new }) }
+    // After a report the output took the lines of exactly the program's flows, each once, with their number.
+    ensures exact { is_report result ≡ true → IsExact words.now
+        (record { told = F.told files.old; before = F.faults files.old; now = F.faults files.new; last = F.last files.new })
+        (record { faults_before = O.faults out.old; faults_now = O.faults out.new; taken_before = O.taken out.old; taken_now = O.taken out.new })
+        result }
     ensures no_bound { result ≡ Status.Bound → ⊥ }
 {
     match answer_to(alloc, words, files) {

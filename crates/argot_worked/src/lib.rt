@@ -2,7 +2,7 @@
 //! seen here before anything is built on it. Each law is the contract of a function that does nothing.
 #![tactic(auto)]
 
-ghost use Rattle.argot_worked.specs.FirstFlow.{ItLeaks, ItHasSevenNodes, ItHasSixEdges, ItIsWellFormed};
+ghost use Rattle.argot_worked.specs.FirstFlow.{ItLeaks, ItHasTwentyPlaces, ItHasSevenNodes, ItHasSixEdges, ItIsWellFormed};
 ghost use Rattle.argot_worked.specs.FilledBox.{ItLeaks as FilledBoxLeaks};
 ghost use Rattle.argot_worked.specs.DeferredCall.{ItEnds as DeferredCallEnds};
 ghost use Rattle.argot_worked.specs.CalledMethod.{ItEnds as CalledMethodEnds, ItLeaks as CalledMethodLeaks};
@@ -14,8 +14,10 @@ pub fn first_flow_leaks()
     ensures { ItLeaks }
 {}
 
-/// It has seven nodes and six edges, and no more.
+/// It has twenty places, seven nodes and six edges, and no more, however its functions are called, wherever its
+/// instructions stand, and however many registers there are that nothing uses.
 pub fn first_flow_is_drawn()
+    ensures places { ItHasTwentyPlaces }
     ensures nodes { ItHasSevenNodes }
     ensures edges { ItHasSixEdges }
 {}
