@@ -8,10 +8,12 @@ mod findings;
 mod graphs;
 mod nodes;
 mod pointing;
+mod sharing;
 mod summaries;
 
 pub use findings::{EscapePair, Findings, Flow, Hop, HopKind, Origin, Trace};
 pub use graphs::{Edge, EdgeKind, Graph};
 pub use nodes::{Defs, Node};
 pub use pointing::{Loc, Points, Spot};
+pub use sharing::may_be_shared;
 pub use summaries::{Same, Summaries};

@@ -115,3 +115,10 @@ impl<'a> Iterator for ChainWalk<'a> {
         Some(cell.item)
     }
 }
+
+fn needs_sharing<T: Send + Sync>(_shared: &T) {}
+
+/// Workers may share chains: the check of this function shows that `Chains` is `Send` and `Sync`.
+pub fn may_be_shared(chains: &Chains) {
+    needs_sharing(chains);
+}

@@ -14,7 +14,7 @@ mod queue;
 mod rows;
 mod words;
 
-pub use chains::{Cell, ChainWalk, Chains};
+pub use chains::{Cell, ChainWalk, Chains, may_be_shared};
 pub use queue::Queue;
 pub use rows::{RowWalk, Rows};
 

@@ -1,5 +1,5 @@
 -- What a leak is, and which goroutines touch an object.
-use Rattle.std.specs.Prelude.{◌≡◌, ℕ, ◌<◌, length, List, [], ◌∷◌, ◌++◌, Some, slice_get, Bool, true, false}
+use Rattle.std.specs.Prelude.{◌≡◌, ℕ, ◌<◌, length, List, [], ◌∷◌, ◌++◌, Some, None, slice_get, Bool, true, false}
 use Rattle.argot_plain.specs.Lists.{In}
 use Rattle.argot_plain.specs.Code.{Code, IsAt, IsFunction, IsSiteOf, leaves, element_leaves, arguments}
 use Rattle.argot_plain.specs.Counts.{is_sink, traced_back}
@@ -61,7 +61,7 @@ pub data LooksInside (p : Code) (pr : Problem) (i h : ℕ) : Type 0 where
   an_external : (fn : Function) → (flows : Bool) → IsFunction p h fn → fn.external ≡ Some flows → LooksInside p pr i h
 
 -- the goroutine g is about to read or write a leaf of the object, or to enter a sink or an external that reaches it; a goroutine
--- that a Go of a sink starts touches what its arguments reach as well
+-- that a Go of a sink starts touches what its arguments reach as well (a Go of an external starts none)
 pub data Touches (p : Code) (l : Labelling) (x : State) : ℕ → Object → Type 0 where
   by_read : {g : ℕ} {o : Object} → (f : Frame) → (rest : List Frame) → (to at : ℕ) → (qs : List (List PathStep)) → (q base : List PathStep) → (y : Content)
       → slice_get x.goroutines g ≡ Some (f ∷ rest) → f.panics ≡ false → IsAt p f.place (Read to at qs) → In y (value_at at [] f.cells) → y.value ≡ Ref o base
@@ -78,6 +78,7 @@ pub data Touches (p : Code) (l : Labelling) (x : State) : ℕ → Object → Typ
       → In q (element_leaves site) → Touches p l x g (record { site = s; maker = g; serial = x.fresh })
   by_entering : {g : ℕ} {o : Object} → (t h n k : ℕ) → (cells : List Cell) → (c : Cell) → Enters p l x g t h n cells → LooksInside p l.problem t h
       → k < n → In c cells → c.register ≡ k → Reached x.slots c.atom.value o → Touches p l x g o
-  by_starting : {o : Object} → (g h k : ℕ) → (f : Frame) → (rest : List Frame) → (callee : Callee) → (args : List ℕ) → (takes : Bool) → (c : Cell)
+  by_starting : {o : Object} → (g h k : ℕ) → (f : Frame) → (rest : List Frame) → (callee : Callee) → (args : List ℕ) → (takes : Bool) → (fn : Function) → (c : Cell)
       → slice_get x.goroutines g ≡ Some (f ∷ rest) → f.panics ≡ false → IsAt p f.place (Go callee args) → Resolves p f.cells callee (Found h takes) → is_sink p l.problem f.place h ≡ true
+      → IsFunction p h fn → fn.external ≡ None
       → k < length (arguments callee args) → In c (handing p l f 0 callee args) → c.register ≡ k → Reached x.slots c.atom.value o → Touches p l x (length x.goroutines) o

@@ -66,7 +66,7 @@ module _ (p : Code) (wf : WellFormed p) (l : Labelling) where
   touched x g o laws (Entering.by_grow f rest to at items s site q base y get calm is sited m e among leaf) = through_register x g o f rest (Grow to at items) at base y laws get calm is (grow_inner to at items) m e
   touched x g o laws (Entering.by_grow_anew f rest to at items s site q get calm is sited among) = inr refl
   touched x g o laws (Entering.by_entering t h n k cells c enters looks within m same r) = entering_case x g t h n cells c o laws enters m r
-  touched x g o laws (Entering.by_starting g' h k f rest callee args takes c get calm at is sink within m same r) =
+  touched x g o laws (Entering.by_starting g' h k f rest callee args takes fn c get calm at is sink found inside within m same r) =
       let gl = laws.goroutine g' (f ∷ rest) get in
       let w = handed_owned x g' 0 f rest (Go callee args) callee args c laws get calm at Handing.by_go m in
       (reaches p wf (length x.goroutines) x.slots f.place (0 + c.register) c.leaf c.atom.value (λ y k. (laws.slot y k).owned)

@@ -7,3 +7,5 @@ pub mod CalledMethodRun
 pub mod ReadFirstRun
 pub mod FirstWell
 pub mod FirstFlowRead
+pub mod CalledMethodLeak
+pub mod DeferredLiteralLeak

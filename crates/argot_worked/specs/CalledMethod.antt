@@ -15,9 +15,10 @@
 --   14     var i I = B{}
 --   15     sink(i.m())
 --   16 }
+-- and of the one that has sink(j.m()) in line 15.
 use Rattle.std.specs.Prelude.{◌≡◌, ℕ, true, false, [], ◌∷◌, Some, None, codes}
 use Rattle.argot_plain.specs.Code.{Code}
-use Rattle.argot_plain.specs.Leak.{labelled}
+use Rattle.argot_plain.specs.Leak.{Leak, labelled}
 use Rattle.argot_plain.specs.Machine.{State}
 use Rattle.argot_plain.specs.Step.{Run}
 use Rattle.argot_plain.specs.declared.functions.Function.{Function}
@@ -75,8 +76,9 @@ function_8 = record { name = codes "main.A.m"; at = at 9 12; entry = 51; exit = 
 abbrev pub function_9 : Function
 function_9 = record { name = codes "main.B.m"; at = at 11 12; entry = 56; exit = 59; leave = 60; params = 1; results = 1; registers = (([] ∷ []) ∷ [] ∷ ([] ∷ []) ∷ []); wraps = Some 6; role = Wrapper; ident = None; has_env = false; external = None }
 
-abbrev pub called_method : Code
-called_method = record {
+-- the program in which line 15 calls the method of the box in this register: 3 is i, 0 is j
+abbrev pub calling : ℕ → Code
+calling box = record {
   functions = function_0 ∷ function_1 ∷ function_2 ∷ function_3 ∷ function_4 ∷ function_5 ∷ function_6 ∷ function_7 ∷ function_8 ∷ function_9 ∷ [];
   instrs = instr 12 6 (Goto 1) ∷ instr 12 6 (Branch (2 ∷ [])) ∷ instr 12 6 (Call [] (Static 7) []) ∷ instr 12 6 (RunDefers) ∷ instr 12 6 (Leave [])
       ∷ instr 2 6 (Goto 6) ∷ instr 2 31 (Op 1 []) ∷ instr 2 24 (Move 0 1 []) ∷ instr 2 24 (Goto 9) ∷ instr 2 40 (RunDefers) ∷ instr 2 40 (Leave (0 ∷ []))
@@ -85,7 +87,7 @@ called_method = record {
       ∷ instr 5 6 (Goto 20) ∷ instr 5 44 (Op 2 []) ∷ instr 5 39 (Op 3 (0 ∷ 2 ∷ [])) ∷ instr 5 32 (Move 1 3 []) ∷ instr 5 32 (Goto 24) ∷ instr 5 48 (RunDefers) ∷ instr 5 48 (Leave (1 ∷ []))
       ∷ instr 9 12 (Goto 27) ∷ instr 9 32 (Call (2 ∷ []) (Static 1) []) ∷ instr 9 25 (Move 1 2 []) ∷ instr 9 25 (Goto 30) ∷ instr 9 41 (RunDefers) ∷ instr 9 41 (Leave (1 ∷ []))
       ∷ instr 11 12 (Goto 33) ∷ instr 11 32 (Op 2 []) ∷ instr 11 25 (Move 1 2 []) ∷ instr 11 25 (Goto 36) ∷ instr 11 37 (RunDefers) ∷ instr 11 37 (Leave (1 ∷ []))
-      ∷ instr 12 6 (Goto 39) ∷ instr 13 12 (Join 1 []) ∷ instr 13 12 (New 2 1) ∷ instr 13 12 (Write 2 1) ∷ instr 13 6 (Move 0 2 []) ∷ instr 14 12 (Join 4 []) ∷ instr 14 12 (New 5 2) ∷ instr 14 12 (Write 5 4) ∷ instr 14 6 (Move 3 5 []) ∷ instr 15 7 (Call (6 ∷ []) (Method 3 (codes "main.m")) []) ∷ instr 15 2 (Call [] (Static 2) (6 ∷ [])) ∷ instr 16 1 (RunDefers) ∷ instr 16 1 (Leave [])
+      ∷ instr 12 6 (Goto 39) ∷ instr 13 12 (Join 1 []) ∷ instr 13 12 (New 2 1) ∷ instr 13 12 (Write 2 1) ∷ instr 13 6 (Move 0 2 []) ∷ instr 14 12 (Join 4 []) ∷ instr 14 12 (New 5 2) ∷ instr 14 12 (Write 5 4) ∷ instr 14 6 (Move 3 5 []) ∷ instr 15 7 (Call (6 ∷ []) (Method box (codes "main.m")) []) ∷ instr 15 2 (Call [] (Static 2) (6 ∷ [])) ∷ instr 16 1 (RunDefers) ∷ instr 16 1 (Leave [])
       ∷ instr 9 12 (Goto 52) ∷ instr 9 12 (Read 1 0 []) ∷ instr 9 12 (Call (2 ∷ []) (Static 5) (1 ∷ [])) ∷ instr 9 12 (RunDefers) ∷ instr 9 12 (Leave (2 ∷ []))
       ∷ instr 11 12 (Goto 57) ∷ instr 11 12 (Read 1 0 []) ∷ instr 11 12 (Call (2 ∷ []) (Static 6) (1 ∷ [])) ∷ instr 11 12 (RunDefers) ∷ instr 11 12 (Leave (2 ∷ [])) ∷ [];
   sites = (record { place = 0; result = 0; leaf = 0; shape = ([] ∷ []); dynamic = 21; function = None } ∷ record { place = 40; result = 0; leaf = 0; shape = []; dynamic = 31; function = None } ∷ record { place = 44; result = 0; leaf = 0; shape = []; dynamic = 32; function = None } ∷ []);
@@ -98,6 +100,10 @@ called_method = record {
 abbrev pub asked : Problem
 asked = record { number = 0; name = codes "p"; sources = (1 ∷ []); sinks = (2 ∷ []); sanitizers = (3 ∷ []); validators = (4 ∷ []); points = []; source_places = []; escapes = false }
 
--- some run leads to the end of the program
+-- some run of the first program leads to its end
 abbrev pub ItEnds : Type 0
-ItEnds = (n : ℕ) × (x : State) × Run called_method (labelled asked) n x × (x.ended ≡ true)
+ItEnds = (n : ℕ) × (x : State) × Run (calling 3) (labelled asked) n x × (x.ended ≡ true)
+
+-- some run of the second leads to a state in which the label of the call at the place 27 is on argument 0 of the call at the place 48
+abbrev pub ItLeaks : Type 0
+ItLeaks = (n : ℕ) × (x : State) × Run (calling 0) (labelled asked) n x × Leak (calling 0) asked x 27 48 0

@@ -10,7 +10,7 @@
 --   9     defer sink(x)
 --   10     x = source()
 --   11 }
-use Rattle.std.specs.Prelude.{◌≡◌, ℕ, true, false, [], ◌∷◌, Some, None, codes}
+use Rattle.std.specs.Prelude.{◌≡◌, ◌++◌, ℕ, true, false, List, [], ◌∷◌, Some, None, codes}
 use Rattle.argot_plain.specs.Code.{Code}
 use Rattle.argot_plain.specs.Leak.{labelled}
 use Rattle.argot_plain.specs.Machine.{State}
@@ -24,10 +24,10 @@ use Rattle.argot_plain.specs.declared.instructions.Kind.TheVariants.{Branch, Cal
 use Rattle.argot_plain.specs.declared.problems.Problem.{Problem}
 use Rattle.argot_text.specs.declared.position.Pos.{Pos}
 
-abbrev at : ℕ → ℕ → Pos
+abbrev pub at : ℕ → ℕ → Pos
 at line col = record { file = 0; line = line; col = col }
 
-abbrev instr : ℕ → ℕ → Kind → Instr
+abbrev pub instr : ℕ → ℕ → Kind → Instr
 instr line col kind = record { kind = kind; at = at line col; tags = [] }
 
 -- entry
@@ -50,6 +50,14 @@ function_3 = record { name = codes "main.sanitize"; at = at 4 6; entry = 14; exi
 abbrev pub function_4 : Function
 function_4 = record { name = codes "main.validate"; at = at 5 6; entry = 19; exit = 24; leave = 25; params = 1; results = 1; registers = (([] ∷ []) ∷ ([] ∷ []) ∷ ([] ∷ []) ∷ ([] ∷ []) ∷ []); wraps = None; role = Own; ident = Some (record { «package» = codes "main"; receiver = codes ""; name = codes "validate" }); has_env = false; external = None }
 
+-- the places of these five, with line 7 as that of main
+abbrev pub helpers : List Instr
+helpers = instr 7 6 (Goto 1) ∷ instr 7 6 (Branch (2 ∷ [])) ∷ instr 7 6 (Call [] (Static 5) []) ∷ instr 7 6 (RunDefers) ∷ instr 7 6 (Leave [])
+    ∷ instr 2 6 (Goto 6) ∷ instr 2 31 (Op 1 []) ∷ instr 2 24 (Move 0 1 []) ∷ instr 2 24 (Goto 9) ∷ instr 2 40 (RunDefers) ∷ instr 2 40 (Leave (0 ∷ []))
+    ∷ instr 3 6 (Goto 12) ∷ instr 3 22 (RunDefers) ∷ instr 3 22 (Leave [])
+    ∷ instr 4 6 (Goto 15) ∷ instr 4 34 (Move 1 0 []) ∷ instr 4 34 (Goto 17) ∷ instr 4 43 (RunDefers) ∷ instr 4 43 (Leave (1 ∷ []))
+    ∷ instr 5 6 (Goto 20) ∷ instr 5 44 (Op 2 []) ∷ instr 5 39 (Op 3 (0 ∷ 2 ∷ [])) ∷ instr 5 32 (Move 1 3 []) ∷ instr 5 32 (Goto 24) ∷ instr 5 48 (RunDefers) ∷ instr 5 48 (Leave (1 ∷ [])) ∷ []
+
 -- main.main
 abbrev pub function_5 : Function
 function_5 = record { name = codes "main.main"; at = at 7 6; entry = 26; exit = 32; leave = 33; params = 0; results = 0; registers = (([] ∷ []) ∷ ([] ∷ []) ∷ ([] ∷ []) ∷ []); wraps = None; role = Own; ident = Some (record { «package» = codes "main"; receiver = codes ""; name = codes "main" }); has_env = false; external = None }
@@ -57,12 +65,7 @@ function_5 = record { name = codes "main.main"; at = at 7 6; entry = 26; exit = 
 abbrev pub deferred_call : Code
 deferred_call = record {
   functions = function_0 ∷ function_1 ∷ function_2 ∷ function_3 ∷ function_4 ∷ function_5 ∷ [];
-  instrs = instr 7 6 (Goto 1) ∷ instr 7 6 (Branch (2 ∷ [])) ∷ instr 7 6 (Call [] (Static 5) []) ∷ instr 7 6 (RunDefers) ∷ instr 7 6 (Leave [])
-      ∷ instr 2 6 (Goto 6) ∷ instr 2 31 (Op 1 []) ∷ instr 2 24 (Move 0 1 []) ∷ instr 2 24 (Goto 9) ∷ instr 2 40 (RunDefers) ∷ instr 2 40 (Leave (0 ∷ []))
-      ∷ instr 3 6 (Goto 12) ∷ instr 3 22 (RunDefers) ∷ instr 3 22 (Leave [])
-      ∷ instr 4 6 (Goto 15) ∷ instr 4 34 (Move 1 0 []) ∷ instr 4 34 (Goto 17) ∷ instr 4 43 (RunDefers) ∷ instr 4 43 (Leave (1 ∷ []))
-      ∷ instr 5 6 (Goto 20) ∷ instr 5 44 (Op 2 []) ∷ instr 5 39 (Op 3 (0 ∷ 2 ∷ [])) ∷ instr 5 32 (Move 1 3 []) ∷ instr 5 32 (Goto 24) ∷ instr 5 48 (RunDefers) ∷ instr 5 48 (Leave (1 ∷ []))
-      ∷ instr 7 6 (Goto 27) ∷ instr 8 7 (Op 1 []) ∷ instr 8 2 (Move 0 1 []) ∷ instr 9 2 (Defer (Static 2) (0 ∷ [])) ∷ instr 10 6 (Call (2 ∷ []) (Static 1) []) ∷ instr 10 2 (Move 0 2 []) ∷ instr 11 1 (RunDefers) ∷ instr 11 1 (Leave []) ∷ [];
+  instrs = helpers ++ (instr 7 6 (Goto 27) ∷ instr 8 7 (Op 1 []) ∷ instr 8 2 (Move 0 1 []) ∷ instr 9 2 (Defer (Static 2) (0 ∷ [])) ∷ instr 10 6 (Call (2 ∷ []) (Static 1) []) ∷ instr 10 2 (Move 0 2 []) ∷ instr 11 1 (RunDefers) ∷ instr 11 1 (Leave []) ∷ []);
   sites = (record { place = 0; result = 0; leaf = 0; shape = ([] ∷ []); dynamic = 21; function = None } ∷ []);
   globals = ((record { «package» = codes "main"; receiver = []; name = codes "c" }, at 6 5, 0) ∷ []);
   methods = [];

@@ -4,3 +4,4 @@ pub mod DeferredCall
 pub mod CalledMethod
 pub mod ReadFirst
 pub mod FirstFlowRead
+pub mod DeferredLiteral

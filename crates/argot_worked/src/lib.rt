@@ -6,7 +6,8 @@ ghost use Rattle.argot_worked.specs.FirstFlow.{ItLeaks, ItHasTwentyPlaces, ItHas
 ghost use Rattle.argot_worked.specs.FirstFlowRead.{ItHasTheForm, ItIsDrawn};
 ghost use Rattle.argot_worked.specs.FilledBox.{ItLeaks as FilledBoxLeaks};
 ghost use Rattle.argot_worked.specs.DeferredCall.{ItEnds as DeferredCallEnds};
-ghost use Rattle.argot_worked.specs.CalledMethod.{ItEnds as CalledMethodEnds};
+ghost use Rattle.argot_worked.specs.CalledMethod.{ItEnds as CalledMethodEnds, ItLeaks as CalledMethodLeaks};
+ghost use Rattle.argot_worked.specs.DeferredLiteral.{ItLeaks as DeferredLiteralLeaks};
 ghost use Rattle.argot_worked.specs.ReadFirst.{ItEnds as ReadFirstEnds};
 
 /// The first program has a run that leaks: the call of its source reaches argument 0 of its sink.
@@ -20,6 +21,12 @@ pub fn first_flow_is_drawn()
     ensures places { ItHasTwentyPlaces }
     ensures nodes { ItHasSevenNodes }
     ensures edges { ItHasSixEdges }
+{}
+
+/// Its bytes have the first form, and what the definitions make of them is drawn so too.
+pub fn first_flow_is_read()
+    ensures form { ItHasTheForm }
+    ensures drawn { ItIsDrawn }
 {}
 
 /// A goroutine fills a box with secret data before it is read: the label of its source reaches the sink.
@@ -47,8 +54,12 @@ pub fn first_flow_is_well_formed()
     ensures { ItIsWellFormed }
 {}
 
-/// Its bytes have the first form, and what the definitions make of them is drawn so too.
-pub fn first_flow_is_read()
-    ensures form { ItHasTheForm }
-    ensures drawn { ItIsDrawn }
+/// The method that hands back secret data is found by the type of the value in the box: it reaches the sink.
+pub fn called_method_leaks()
+    ensures { CalledMethodLeaks }
+{}
+
+/// A deferred literal runs at the exit and reads what its captured variable holds then: secret data, which reaches the sink.
+pub fn deferred_literal_leaks()
+    ensures { DeferredLiteralLeaks }
 {}
