@@ -4,8 +4,8 @@ use Rattle.std.proofs.lemmas.Bool.{false≢true, eqb-true}
 use Rattle.std.proofs.lemmas.List.{length-replicate}
 use Rattle.std.specs.Prelude.{slice_get, slice_set, slice_index, if◌then◌else◌}
 use Rattle.argot_first_form.specs.declared.functions.Function.{Function}
-use Rattle.argot_first.specs.declared.kinds.Kind.{Kind}
-use Rattle.argot_first.specs.declared.kinds.Kind.TheVariants.{Op, Move, Call, RunDefers, Leave, Goto, Branch}
+use Rattle.argot_plain.specs.declared.first.Kind.{Kind}
+use Rattle.argot_plain.specs.declared.first.Kind.TheVariants.{Op, Move, Call, RunDefers, Leave, Goto, Branch}
 use Rattle.argot_first.specs.Marks.{marked, marked_at, argument_at, set_at, target, carries, passes, calls_named, named_source, named_sink, argument_flows, step_flows, arguments_of, no_marks}
 use Rattle.argot_first.specs.Links.{link_at, link_in, handed, set_link, result_link, heads_after, nexts_after, leads_to, AreDown, AreWithin, flows_along, step_along}
 use Rattle.argot_first.proofs.Along.{one-further, with-more, down-more, last-is}

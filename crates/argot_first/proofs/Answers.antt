@@ -15,9 +15,10 @@ use Rattle.argot_first_form.specs.declared.functions.Function.{Function}
 use Rattle.argot_first_form.specs.declared.steps.Step.{Step}
 use Rattle.argot_first_form.proofs.Bounds as bounds
 use Rattle.argot_first_form.proofs.Programs as programs
-use Rattle.argot_first.specs.declared.kinds.Kind.{Kind}
+use Rattle.argot_plain.specs.declared.first.Kind.{Kind}
 use Rattle.argot_first.specs.declared.found.Flow.{Flow}
-use Rattle.argot_first.specs.Code.{Instr, all_places, step_instrs, code_of}
+use Rattle.argot_plain.specs.First.{Instr}
+use Rattle.argot_first.specs.Code.{all_places, step_instrs, code_of}
 use Rattle.argot_first.specs.Answer.{AreFlows, IsReport, IsReportOf, offset_in, position_text, flow_line, report}
 use Rattle.argot_first.specs.Marks.{kinds_from, all_flows}
 use Rattle.argot_first.specs.Report.{position, position_at, text_at, argument_text, line, whole, all_places_of, nowhere}

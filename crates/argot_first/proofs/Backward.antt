@@ -8,10 +8,10 @@ use Rattle.std.proofs.lemmas.Bool.{false≢true, eqb-true}
 use Rattle.argot_first_form.specs.declared.functions.Function.{Function}
 use Rattle.argot_first_form.specs.declared.functions.Returned.{Returned}
 use Rattle.argot_first_form.specs.declared.functions.Returned.TheVariants as returns
-use Rattle.argot_first.specs.declared.kinds.Kind.{Kind}
-use Rattle.argot_first.specs.declared.kinds.Kind.TheVariants.{Op, Move, Call, RunDefers, Leave, Goto, Branch}
-use Rattle.argot_first.specs.Code.{Plain, Code, number_of}
-use Rattle.argot_first.specs.Flows.{IsAt, IsFunction, IsLivePlace, Live, GoesOn, Successor, Gives, IsParameter, Defines, Reaches, next, onward, Takes, within, enters, returns, Joins, stay, plain, call, return_last, cleans}
+use Rattle.argot_plain.specs.declared.first.Kind.{Kind}
+use Rattle.argot_plain.specs.declared.first.Kind.TheVariants.{Op, Move, Call, RunDefers, Leave, Goto, Branch}
+use Rattle.argot_plain.specs.First.{Plain, Code, IsAt, IsFunction, IsLivePlace, Live, GoesOn, Successor, Gives, IsParameter, Defines, Reaches, next, onward, Takes, within, enters, returns, Joins, stay, plain, call, return_last, cleans}
+use Rattle.argot_first.specs.Code.{number_of}
 use Rattle.argot_first.specs.Marks.{marked, marked_at, argument_at, target, set_at, carries, passes, passes_function, cleans_name, parameter_returned, no_marks}
 use Rattle.argot_first.proofs.Lookup.{some-same}
 use Rattle.argot_first.proofs.Blocks.{IsBlock, block_of, last_of}

@@ -3,7 +3,7 @@ use Rattle.std.proofs.Common.{◌≡◌, ◌≢◌, ℕ, zero, suc, ◌+◌, ◌
 use Rattle.std.proofs.lemmas.List.{length-replicate}
 use Rattle.std.specs.Prelude.{slice_get, slice_set}
 use Rattle.argot_first_form.specs.declared.functions.Function.{Function}
-use Rattle.argot_first.specs.declared.kinds.Kind.{Kind}
+use Rattle.argot_plain.specs.declared.first.Kind.{Kind}
 use Rattle.argot_first.specs.Marks.{marked, set_at, target, carries, marks_after, no_marks}
 
 pub marked-same : (m : List Bool) (r : ℕ) (v : Bool) → r < length m → marked (slice_set m r v) r ≡ v

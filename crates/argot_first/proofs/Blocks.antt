@@ -7,10 +7,10 @@ use Rattle.argot_first_form.specs.declared.functions.Function.{Function}
 use Rattle.argot_first_form.specs.declared.functions.Returned.{Returned}
 use Rattle.argot_first_form.specs.declared.functions.Returned.TheVariants as returns
 use Rattle.argot_first_form.specs.declared.steps.Step.{Step}
-use Rattle.argot_first.specs.declared.kinds.Kind.{Kind}
-use Rattle.argot_first.specs.declared.kinds.Kind.TheVariants.{Op, Move, Call, RunDefers, Leave, Goto, Branch}
-use Rattle.argot_first.specs.Code.{Instr, Plain, Code, all_places, number_of, items_instrs, items_functions, step_instrs, main_instrs, main_entry, main_name, code_of, kind_of}
-use Rattle.argot_first.specs.Flows.{kind_in, kind_at, IsAt}
+use Rattle.argot_plain.specs.declared.first.Kind.{Kind}
+use Rattle.argot_plain.specs.declared.first.Kind.TheVariants.{Op, Move, Call, RunDefers, Leave, Goto, Branch}
+use Rattle.argot_plain.specs.First.{Instr, Plain, Code, kind_in, kind_at, IsAt}
+use Rattle.argot_first.specs.Code.{all_places, number_of, items_instrs, items_functions, step_instrs, main_instrs, main_entry, main_name, code_of, kind_of}
 use Rattle.argot_first.specs.Marks.{kinds_from}
 use Rattle.argot_first.proofs.Lookup.{get-left, get-right, get-at, get-either}
 

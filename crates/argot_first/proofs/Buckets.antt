@@ -7,7 +7,7 @@ use Rattle.std.specs.Prelude.{slice_get, slice_index, if◌then◌else◌}
 use Rattle.std.proofs.lemmas.Bool.Decides.{Decides-eqb}
 use Rattle.std.proofs.lemmas.Option.{slice_get_within}
 use Rattle.argot_first_form.specs.declared.functions.Function.{Function}
-use Rattle.argot_first.specs.declared.kinds.Kind.{Kind}
+use Rattle.argot_plain.specs.declared.first.Kind.{Kind}
 use Rattle.argot_first.specs.declared.found.Flow.{Flow}
 use Rattle.argot_first.specs.Marks.{calls_named, named_source, no_marks, flows_from, step_flows, marks_after, all_flows}
 use Rattle.argot_first.specs.Links.{AreDown, leads_to, bucket, flow_along, step_along, Adds, AreBuckets}

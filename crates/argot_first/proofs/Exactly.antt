@@ -5,11 +5,11 @@ use Rattle.std.proofs.lemmas.Option.{slice_get_within}
 use Rattle.std.proofs.lemmas.Bool.{false≢true}
 use Rattle.std.proofs.lemmas.Bool.Decides.{Decides-eqb}
 use Rattle.argot_first_form.specs.declared.functions.Function.{Function}
-use Rattle.argot_first.specs.declared.kinds.Kind.{Kind}
-use Rattle.argot_first.specs.declared.kinds.Kind.TheVariants.{Op, Move, Call, RunDefers, Leave, Goto, Branch}
+use Rattle.argot_plain.specs.declared.first.Kind.{Kind}
+use Rattle.argot_plain.specs.declared.first.Kind.TheVariants.{Op, Move, Call, RunDefers, Leave, Goto, Branch}
 use Rattle.argot_first.specs.declared.found.Flow.{Flow}
-use Rattle.argot_first.specs.Code.{Plain, Code, number_of}
-use Rattle.argot_first.specs.Flows.{IsAt, IsFunction, is_source, is_sink, Calls, IsFlow}
+use Rattle.argot_plain.specs.First.{Plain, Code, IsAt, IsFunction, is_source, is_sink, Calls, IsFlow}
+use Rattle.argot_first.specs.Code.{number_of}
 use Rattle.argot_first.specs.Answer.{AreFlows}
 use Rattle.argot_first.specs.Marks.{marked, target, calls_named, counts_as, named_sink, named_source, arguments_of, flows_from, all_flows, no_marks}
 use Rattle.argot_first.proofs.Lookup.{some-same}

@@ -4,9 +4,9 @@ use Rattle.std.specs.Prelude.{slice_get}
 use Rattle.argot_first_form.specs.declared.functions.Function.{Function}
 use Rattle.argot_first_form.specs.declared.functions.Returned.{Returned}
 use Rattle.argot_first_form.specs.declared.functions.Returned.TheVariants as returns
-use Rattle.argot_first.specs.declared.kinds.Kind.{Kind}
-use Rattle.argot_first.specs.Code.{Plain, Code, number_of}
-use Rattle.argot_first.specs.Flows.{IsAt, GoesOn, Defines, Reaches, next, onward, Takes}
+use Rattle.argot_plain.specs.declared.first.Kind.{Kind}
+use Rattle.argot_plain.specs.First.{Plain, Code, IsAt, GoesOn, Defines, Reaches, next, onward, Takes}
+use Rattle.argot_first.specs.Code.{number_of}
 use Rattle.argot_first.proofs.Lookup.{some-same}
 use Rattle.argot_first.proofs.Blocks.{IsBlock, block_of, last_of}
 

@@ -19,10 +19,10 @@ use Rattle.argot_first_form.specs.declared.steps.Action.{Action}
 use Rattle.argot_first_form.specs.declared.steps.Action.TheVariants as actions
 use Rattle.argot_first_form.specs.declared.steps.Operand.{Operand}
 use Rattle.argot_first_form.specs.declared.steps.Step.{Step}
-use Rattle.argot_first.specs.declared.kinds.Kind.{Kind}
-use Rattle.argot_first.specs.declared.kinds.Kind.TheVariants.{Call, RunDefers, Leave, Goto}
-use Rattle.argot_first.specs.Code.{Plain, variable, register, kind_of, items_functions, main_entry, main_number, entry_function, main_function, code_of}
-use Rattle.argot_first.specs.Flows.{kind_at, IsAt, IsFunction, IsIn, Live, opening, called, IsLivePlace}
+use Rattle.argot_plain.specs.declared.first.Kind.{Kind}
+use Rattle.argot_plain.specs.declared.first.Kind.TheVariants.{Call, RunDefers, Leave, Goto}
+use Rattle.argot_plain.specs.First.{Plain, kind_at, IsAt, IsFunction, IsIn, Live, opening, called, IsLivePlace}
+use Rattle.argot_first.specs.Code.{variable, register, kind_of, items_functions, main_entry, main_number, entry_function, main_function, code_of}
 use Rattle.argot_first.specs.Marks.{kinds_from}
 use Rattle.argot_first.proofs.Lookup.{some-same, get-left, get-at, get-either}
 use Rattle.argot_first.proofs.Blocks.{IsBlock, length-plains, block_of, last_of, main_steps, main_kinds, all_kinds, entry_kinds, items_kinds, length-items_kinds, items-call-none, main-stand, kind_at-is, base_of, step-at, end-at}

@@ -2,7 +2,7 @@
 use Rattle.std.proofs.Common.{◌≡◌, ℕ, zero, suc, ◌+◌, ◌<◌, List, [], ◌∷◌, ◌++◌, Some, Bool, true, false, length, refl, sym, ap, ◌∙◌, subst, arith, add-zero, zero-add, ◌⊎◌, inl, inr}
 use Rattle.std.specs.Prelude.{slice_get, if◌then◌else◌}
 use Rattle.argot_first_form.specs.declared.functions.Function.{Function}
-use Rattle.argot_first.specs.declared.kinds.Kind.{Kind}
+use Rattle.argot_plain.specs.declared.first.Kind.{Kind}
 use Rattle.argot_first.specs.declared.found.Flow.{Flow}
 use Rattle.argot_first.specs.Answer.{IsBefore, by_source, by_sink, by_argument}
 use Rattle.argot_first.specs.Marks.{marked, calls_named, named_sink, named_source, argument_flows, arguments_of, step_flows, flows_from, source_flows, all_flows, marks_after, no_marks}

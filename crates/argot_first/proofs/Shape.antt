@@ -6,10 +6,10 @@ use Rattle.argot_first_form.specs.Tree.{File}
 use Rattle.argot_first_form.specs.Steps.{functions_of}
 use Rattle.argot_first_form.specs.declared.functions.Function.{Function}
 use Rattle.argot_first_form.specs.declared.functions.Returned.TheVariants as returns
-use Rattle.argot_first.specs.declared.kinds.Kind.{Kind}
-use Rattle.argot_first.specs.declared.kinds.Kind.TheVariants.{Op, Move, Call, RunDefers, Leave, Goto, Branch}
-use Rattle.argot_first.specs.Code.{Plain, Code, number_of, items_functions, main_number, entry_function, main_function, code_of}
-use Rattle.argot_first.specs.Flows.{IsAt, IsFunction, Live, IsLivePlace}
+use Rattle.argot_plain.specs.declared.first.Kind.{Kind}
+use Rattle.argot_plain.specs.declared.first.Kind.TheVariants.{Op, Move, Call, RunDefers, Leave, Goto, Branch}
+use Rattle.argot_plain.specs.First.{Plain, Code, IsAt, IsFunction, Live, IsLivePlace}
+use Rattle.argot_first.specs.Code.{number_of, items_functions, main_number, entry_function, main_function, code_of}
 use Rattle.argot_first.proofs.Lookup.{some-same, get-either}
 use Rattle.argot_first.proofs.Blocks.{IsBlock, FoundBlock, found-block, length-plains, all_kinds, items-stand, kind_at-is}
 

@@ -6,10 +6,10 @@ use Rattle.std.proofs.lemmas.Bool.{cases_lt}
 use Rattle.argot_first_form.specs.declared.functions.Function.{Function}
 use Rattle.argot_first_form.specs.declared.functions.Returned.{Returned}
 use Rattle.argot_first_form.specs.declared.functions.Returned.TheVariants as returns
-use Rattle.argot_first.specs.declared.kinds.Kind.{Kind}
-use Rattle.argot_first.specs.declared.kinds.Kind.TheVariants.{Op, Move, Call, RunDefers, Leave, Goto, Branch}
-use Rattle.argot_first.specs.Code.{Plain, Code, number_of}
-use Rattle.argot_first.specs.Flows.{In, kind_at, IsAt, IsFunction, GoesOn, Successor, Gives, IsParameter, Defines, Reaches, next, onward, Takes, Within, Enters, Returns, Edge, within, enters, returns, Joins, stay, plain, call, return_last, return_free, cleans}
+use Rattle.argot_plain.specs.declared.first.Kind.{Kind}
+use Rattle.argot_plain.specs.declared.first.Kind.TheVariants.{Op, Move, Call, RunDefers, Leave, Goto, Branch}
+use Rattle.argot_plain.specs.First.{Plain, Code, In, kind_at, IsAt, IsFunction, GoesOn, Successor, Gives, IsParameter, Defines, Reaches, next, onward, Takes, Within, Enters, Returns, Edge, within, enters, returns, Joins, stay, plain, call, return_last, return_free, cleans}
+use Rattle.argot_first.specs.Code.{number_of}
 use Rattle.argot_first.specs.Marks.{marked, target, set_at, carries, passes, cleans_name}
 use Rattle.argot_first.proofs.Lookup.{some-same}
 use Rattle.argot_first.proofs.Blocks.{IsBlock, block_of, last_of}

@@ -8,8 +8,8 @@ use Rattle.argot_first_form.specs.Form.{IsFirstForm, HasFirstForm}
 use Rattle.argot_first.specs.declared.found.Flow.{Flow}
 use Rattle.argot_first.specs.declared.found.Answer.{Answer}
 use Rattle.argot_first.specs.declared.found.Answer.TheVariants.{Unsupported, Report}
-use Rattle.argot_first.specs.Code.{Code, Instr, code_of}
-use Rattle.argot_first.specs.Flows.{IsFlow}
+use Rattle.argot_plain.specs.First.{Code, Instr, IsFlow}
+use Rattle.argot_first.specs.Code.{code_of}
 
 -- by source, sink and argument
 pub data IsBefore (a b : Flow) : Type 0 where

@@ -11,27 +11,9 @@ use Rattle.argot_first_form.specs.declared.functions.Function.{Function}
 use Rattle.argot_first_form.specs.Tree.{Parameter, Fixed, atom_text, Item, Blank, Func, Void, item_text, items_text, body_text, blanks_text, File, text_of}
 use Rattle.argot_first_form.specs.Steps.{offset_of, functions_of, steps_of}
 use Rattle.argot_first_form.specs.Form.{among, declared_by, named, has_result}
-use Rattle.argot_first.specs.declared.kinds.Kind.{Kind}
-use Rattle.argot_first.specs.declared.kinds.Kind.TheVariants.{Op, Move, Call, RunDefers, Leave, Goto, Branch}
-
--- an instruction, with the offset of its position in the file
-pub record Instr : Type 0 where
-  pub kind : Kind
-  pub at : ℕ
-
--- a function: its first place, the place of its RunDefers, its last place, and how many parameters and results it has
-pub record Plain : Type 0 where
-  pub name : List ℕ
-  pub entry : ℕ
-  pub exit : ℕ
-  pub leave : ℕ
-  pub params : ℕ
-  pub results : ℕ
-
--- the functions, by number, and the instructions of all functions, by place
-pub record Code : Type 0 where
-  pub functions : List Plain
-  pub instrs : List Instr
+use Rattle.argot_plain.specs.First.{Instr, Plain, Code}
+use Rattle.argot_plain.specs.declared.first.Kind.{Kind}
+use Rattle.argot_plain.specs.declared.first.Kind.TheVariants.{Op, Move, Call, RunDefers, Leave, Goto, Branch}
 
 abbrev pub instr : ℕ → List ℕ → Kind → Instr
 instr total text kind = record { kind = kind; at = offset_of total text }

@@ -1,8 +1,8 @@
 -- The flows of main, computed in one walk: each register leads to the nearest call of a source whose data it holds, and each such call to the next one.
 use Rattle.std.specs.Prelude.{◌≡◌, ℕ, zero, suc, ◌+◌, ◌<◌, ◌≤◌, List, [], ◌∷◌, ◌++◌, length, Bool, true, false, ◌||◌, ◌==◌, Option, Some, None, slice_get, slice_set, slice_index, slice_index_or, unwrap_or, if◌then◌else◌}
 use Rattle.argot_first_form.specs.declared.functions.Function.{Function}
-use Rattle.argot_first.specs.declared.kinds.Kind.{Kind}
-use Rattle.argot_first.specs.declared.kinds.Kind.TheVariants.{Op, Move, Call, RunDefers, Leave, Goto, Branch}
+use Rattle.argot_plain.specs.declared.first.Kind.{Kind}
+use Rattle.argot_plain.specs.declared.first.Kind.TheVariants.{Op, Move, Call, RunDefers, Leave, Goto, Branch}
 use Rattle.argot_first.specs.declared.found.Flow.{Flow}
 use Rattle.argot_first.specs.Marks.{named_source, named_sink, calls_named, argument_at, arguments_of, passes, target, no_marks, flows_from}
 

@@ -5,8 +5,8 @@ ghost use Rattle.std.specs.Option.{option_copied};
 ghost use Rattle.argot_first.specs.Code.{number_of};
 ghost use Rattle.argot_first.specs.Marks.{named_source, named_sink, cleans_name, parameter_returned, passes, calls_named, target, arguments_of};
 
-use crate::kinds::Kind;
 use argot_first_form::{Function, Name, Returned};
+use argot_plain::first::Kind;
 
 fn named_source(name: &[u8]) -> bool
     ensures { result ≡ named_source name.now }

@@ -7,9 +7,9 @@ ghost use Rattle.argot_first.specs.Marks.{all_flows};
 
 use crate::calls::{arguments_of, calls_sink, calls_source};
 use crate::found::Flow;
-use crate::kinds::Kind;
 use crate::links::{link_at, link_step};
 use argot_first_form::Function;
+use argot_plain::first::Kind;
 use argot_text::Memory;
 use sqlite_items::Items;
 use std::alloc::Global;

@@ -1,20 +1,19 @@
 //! The flows of a program of the first form, and their report.
-//! `specs/Code.antt` gives the plain code of a program, `specs/Flows.antt` the flows of plain code and
-//! `specs/Answer.antt` what `analyse_first` answers, which is all that the layer above uses.
+//! `specs/Code.antt` gives the plain code of a program, the module `first` of `argot_plain` the flows of such code, and
+//! `specs/Answer.antt` what `analyse_first` answers, which is all that the layer above uses. The flows are found in one
+//! walk over main's steps, so that time goes by the steps and the flows.
 #![tactic(auto)]
 
 mod analyse;
 mod calls;
 mod flows;
 mod found;
-mod kinds;
 mod links;
 mod lowering;
 mod report;
 
 pub use analyse::analyse_first;
 pub use found::{Answer, Flow};
-pub use kinds::Kind;
 
 #[cfg(test)]
 mod tests;

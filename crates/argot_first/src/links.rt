@@ -6,8 +6,8 @@ ghost use Rattle.argot_first.specs.Links.{link_at, link_in, handed, set_link, he
 ghost use Rattle.argot_first.specs.Marks.{argument_at};
 
 use crate::calls::{calls_source, passes, target};
-use crate::kinds::Kind;
 use argot_first_form::Function;
+use argot_plain::first::Kind;
 use argot_text::Memory;
 
 /// Where a register leads.

@@ -5,8 +5,8 @@ ghost use Rattle.std.specs.Str.{bytes_eq};
 ghost use Rattle.argot_first.specs.Code.{variable, register, function_number, kind_of};
 ghost use Rattle.argot_first.specs.Marks.{kinds_from};
 
-use crate::kinds::Kind;
 use argot_first_form::{Action, Function, Operand, Step, declares, has_result};
+use argot_plain::first::Kind;
 use argot_text::Memory;
 use sqlite_items::Items;
 use std::alloc::Global;

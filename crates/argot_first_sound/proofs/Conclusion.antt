@@ -4,7 +4,7 @@ use Rattle.std.proofs.lemmas.Option.{slice_get_within}
 use Rattle.argot_first_form.specs.Tree.{File}
 use Rattle.argot_first.specs.Answer.{IsReportOf}
 use Rattle.argot_first.specs.Code.{code_of}
-use Rattle.argot_first.specs.Flows.{IsFlow}
+use Rattle.argot_plain.specs.First.{IsFlow}
 use Rattle.argot_sound.proofs.Conclusion.{leak_flows}
 use Rattle.argot_first_sound.specs.Whole.{whole_of, asked}
 use Rattle.argot_first_sound.specs.Laws.{IsWellFormed, FlowsAreWholeFlows, EachLeakIsAFlow, NoRunLeaks, CleanMeansNoLeak}

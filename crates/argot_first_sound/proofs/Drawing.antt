@@ -3,10 +3,9 @@ use Rattle.std.proofs.Common.{◌≡◌, ℕ, zero, suc, ◌+◌, ◌<◌, List,
 use Rattle.std.proofs.lemmas.Bool.{eqb-true}
 use Rattle.std.proofs.lemmas.Bool.Decides.{nat_tests, Decides-eqb}
 use Rattle.std.specs.Prelude.{slice_get, nat_lt, if◌then◌else◌}
-use Rattle.argot_first.specs.declared.kinds.Kind as Few
-use Rattle.argot_first.specs.declared.kinds.Kind.TheVariants as few
-use Rattle.argot_first.specs.Code as First
-use Rattle.argot_first.specs.Flows as Old
+use Rattle.argot_plain.specs.declared.first.Kind as Few
+use Rattle.argot_plain.specs.declared.first.Kind.TheVariants as few
+use Rattle.argot_plain.specs.First as First
 use Rattle.argot_first.proofs.Lookup.{get-left, get-at, get-either}
 use Rattle.argot_plain.specs.Lists.{member}
 use Rattle.argot_plain.specs.Code.{Next, Successor, successor, by_call, param_of, leaves, node_registers}
@@ -49,7 +48,7 @@ in-member x (y ∷ ys) zero h = ap (λ b. b || member x ys) (ap (nat_eq x) (some
 in-member x (y ∷ ys) (suc k) h = ap (λ b. nat_eq x y || b) (in-member x ys k h) ∙ or-right (nat_eq x y)
 
 -- the registers of an instruction's nodes
-gives-node : (kind : Few.Kind) (k r : ℕ) → Old.Gives (Some kind) k r → slice_get (node_registers (whole_kind kind)) k ≡ Some r
+gives-node : (kind : Few.Kind) (k r : ℕ) → First.Gives (Some kind) k r → slice_get (node_registers (whole_kind kind)) k ≡ Some r
 gives-node (few.Op to from) k r h = ap (slice_get (to ∷ [])) h.0 ∙ ap Some (sym h.1)
 gives-node (few.Move to from) k r h = ap (slice_get (to ∷ [])) h.0 ∙ ap Some (sym h.1)
 gives-node (few.Call to g args) k r h = get-left to args k r h
@@ -58,7 +57,7 @@ gives-node (few.Leave from) k r h = absurd h
 gives-node (few.Goto target) k r h = absurd h
 gives-node (few.Branch targets) k r h = absurd h
 
-takes-node : (kind : Few.Kind) (l r : ℕ) → Old.Takes (Some kind) l r → (x : ℕ) × (slice_get (node_registers (whole_kind kind)) l ≡ Some x)
+takes-node : (kind : Few.Kind) (l r : ℕ) → First.Takes (Some kind) l r → (x : ℕ) × (slice_get (node_registers (whole_kind kind)) l ≡ Some x)
 takes-node (few.Op to from) l r h = (to, ap (slice_get (to ∷ [])) h.0)
 takes-node (few.Move to from) l r h = (to, ap (slice_get (to ∷ [])) h.0)
 takes-node (few.Call to g args) l r h = (r, get-at to args l h.0 h.1 ∙ h.2)
@@ -67,7 +66,7 @@ takes-node (few.Leave from) l r h = (r, h)
 takes-node (few.Goto target) l r h = absurd h
 takes-node (few.Branch targets) l r h = absurd h
 
-takes-there : (kind : Few.Kind) (l r : ℕ) (code : First.Code) → Old.Takes (Some kind) l r → Takes (asked code) (whole_kind kind) r [] l []
+takes-there : (kind : Few.Kind) (l r : ℕ) (code : First.Code) → First.Takes (Some kind) l r → Takes (asked code) (whole_kind kind) r [] l []
 takes-there (few.Op to from) l r code h = (in-member r from h.1.0 h.1.1, h.0, refl)
 takes-there (few.Move to from) l r code h = (h.1, h.0, refl)
 takes-there (few.Call to g args) l r code h = (h.0, h.2, h.1, refl)
@@ -98,7 +97,7 @@ not-itself target i e = not-by (nat_eq target i) refl
     not-by true h = let x = eqb-true target i h in absurd (omega arith)
     not-by false h = refl
 
-next-there : (code : First.Code) (f : First.Plain) (kind : Few.Kind) (i j : ℕ) → Good code f i (whole_kind kind) → Old.GoesOn (Some kind) i j → Next (whole_kind kind) i j
+next-there : (code : First.Code) (f : First.Plain) (kind : Few.Kind) (i j : ℕ) → Good code f i (whole_kind kind) → First.GoesOn (Some kind) i j → Next (whole_kind kind) i j
 next-there code f (few.Op to from) i j g h = h
 next-there code f (few.Move to from) i j g h = h
 next-there code f (few.Call to n args) i j g h = h
@@ -132,56 +131,56 @@ module _ (code : First.Code) (ok : Fitting code) where
   abbrev node : ℕ → ℕ → Node
   node i k = record { place = i; index = k; leaf = 0 }
 
-  leaf-there : (g r : ℕ) (f : First.Plain) → Old.IsFunction code g f → r < registers_of f → slice_get (leaves (whole_of code) g r) 0 ≡ Some []
+  leaf-there : (g r : ℕ) (f : First.Plain) → First.IsFunction code g f → r < registers_of f → slice_get (leaves (whole_of code) g r) 0 ≡ Some []
   leaf-there g r f is h = ap (λ qs. slice_get qs 0) (leaves-at code ok g r f is h)
 
-  has-node : (i k r : ℕ) (kind : Few.Kind) → Old.IsAt code i kind → slice_get (node_registers (whole_kind kind)) k ≡ Some r → HasLeaf (whole_of code) i k 0 []
+  has-node : (i k r : ℕ) (kind : Few.Kind) → First.IsAt code i kind → slice_get (node_registers (whole_kind kind)) k ≡ Some r → HasLeaf (whole_of code) i k 0 []
   has-node i k r kind at get =
       let h = good-somewhere code ok i (whole_kind kind) (at-there code i kind at) in
       let here = h.1 in
       of_kind h.0 r (whole_kind kind) (inside-there code ok i h.0 here.function here.is here.inside) (at-there code i kind at) get (leaf-there h.0 r here.function here.is (nodes-below code here.function i kind here.good k r get))
 
-  has-parameter : (i k r : ℕ) → Old.IsParameter code i k r → HasLeaf (whole_of code) i k 0 []
+  has-parameter : (i k r : ℕ) → First.IsParameter code i k r → HasLeaf (whole_of code) i k 0 []
   has-parameter i k r p =
       let own = p.within in
       of_entry p.number (record { fn = whole_function p.function; is = function-there code p.number p.function p.is_function; at = sym p.entry }) own (leaf-there p.number k p.function p.is_function (omega arith))
 
-  given-by : (i k r : ℕ) (o : Option Few.Kind) → Old.kind_at code i ≡ o → Old.Gives o k r → HasLeaf (whole_of code) i k 0 []
+  given-by : (i k r : ℕ) (o : Option Few.Kind) → First.kind_at code i ≡ o → First.Gives o k r → HasLeaf (whole_of code) i k 0 []
   given-by i k r None e h = absurd h
   given-by i k r (Some kind) e h = has-node i k r kind e (gives-node kind k r h)
 
-  has-defined : (i k r : ℕ) → Old.Defines code i k r → HasLeaf (whole_of code) i k 0 []
-  has-defined i k r (inl h) = given-by i k r (Old.kind_at code i) refl h
+  has-defined : (i k r : ℕ) → First.Defines code i k r → HasLeaf (whole_of code) i k 0 []
+  has-defined i k r (inl h) = given-by i k r (First.kind_at code i) refl h
   has-defined i k r (inr p) = has-parameter i k r p
 
   marked : (i k : ℕ) → HasLeaf (whole_of code) i k 0 [] → IsMarked (whole_of code) (node i k) (mark i k [])
   marked i k h = record { place = refl; index = refl; has = h }
 
-  live-there : (g : ℕ) → Old.Live code g → Holds (whole_of code) (IsLive g)
-  live-there g Old.opening = entry_is_live
-  live-there g (Old.called f i fn to args l is inside at) =
+  live-there : (g : ℕ) → First.Live code g → Holds (whole_of code) (IsLive g)
+  live-there g First.opening = entry_is_live
+  live-there g (First.called f i fn to args l is inside at) =
       target_is_live i false (target_static f (length to) (Call to (Static g) args) args (inside-there code ok i f fn is inside) (live-there f l) (at-there code i (few.Call to g args) at) by_call)
 
-  place-there : (i : ℕ) → Old.IsLivePlace code i → IsLivePlace (whole_of code) i
+  place-there : (i : ℕ) → First.IsLivePlace code i → IsLivePlace (whole_of code) i
   place-there i l = record { function = l.number; is_in = inside-there code ok i l.number l.function l.is_function l.inside; is_live = live-there l.number l.live }
 
-  target-there : (i g : ℕ) (to args : List ℕ) → Old.IsLivePlace code i → Old.IsAt code i (few.Call to g args) → Holds (whole_of code) (Targets i g false)
+  target-there : (i g : ℕ) (to args : List ℕ) → First.IsLivePlace code i → First.IsAt code i (few.Call to g args) → Holds (whole_of code) (Targets i g false)
   target-there i g to args l at =
       target_static l.number (length to) (Call to (Static g) args) args (inside-there code ok i l.number l.function l.is_function l.inside) (live-there l.number l.live) (at-there code i (few.Call to g args) at) by_call
 
-  goes-by : (i j : ℕ) (o : Option Few.Kind) → Old.kind_at code i ≡ o → Old.GoesOn o i j → Successor (whole_of code) i j
+  goes-by : (i j : ℕ) (o : Option Few.Kind) → First.kind_at code i ≡ o → First.GoesOn o i j → Successor (whole_of code) i j
   goes-by i j None e h = absurd h
   goes-by i j (Some kind) e h =
       let at = at-there code i kind e in
       let s = good-somewhere code ok i (whole_kind kind) at in
       successor (whole_kind kind) at (next-there code s.1.function kind i j s.1.good h)
 
-  successor-there : (i j : ℕ) → Old.Successor code i j → Successor (whole_of code) i j
-  successor-there i j h = goes-by i j (Old.kind_at code i) refl h
+  successor-there : (i j : ℕ) → First.Successor code i j → Successor (whole_of code) i j
+  successor-there i j h = goes-by i j (First.kind_at code i) refl h
 
-  reaches-there : (d k r i : ℕ) → Old.Reaches code d k r i → Old.Defines code d k r × Reaches (whole_of code) d r i
-  reaches-there d k r i (Old.next def s) = (def, next (successor-there d i s))
-  reaches-there d k r i (Old.onward {m = m} before none s) =
+  reaches-there : (d k r i : ℕ) → First.Reaches code d k r i → First.Defines code d k r × Reaches (whole_of code) d r i
+  reaches-there d k r i (First.next def s) = (def, next (successor-there d i s))
+  reaches-there d k r i (First.onward {m = m} before none s) =
       let x = reaches-there d k r m before in
       (x.0, on x.1 (λ l y. none l (defines-back code m l r y)) (successor-there m i s))
 
@@ -189,7 +188,7 @@ module _ (code : First.Code) (ok : Fitting code) where
   abbrev WholeEdge : ℕ → ℕ → EdgeKind → ℕ → ℕ → Type 0
   WholeEdge d k kind i l = IsEdge (whole_of code) (asked code) (node d k) kind (node i l)
 
-  taken-by : (d k r i l : ℕ) (o : Option Few.Kind) → Old.kind_at code i ≡ o → Old.IsLivePlace code i → Old.Takes o l r → Old.Reaches code d k r i → WholeEdge d k Plain i l
+  taken-by : (d k r i l : ℕ) (o : Option Few.Kind) → First.kind_at code i ≡ o → First.IsLivePlace code i → First.Takes o l r → First.Reaches code d k r i → WholeEdge d k Plain i l
   taken-by d k r i l None e live t reaches = absurd t
   taken-by d k r i l (Some kind) e live t reaches =
       let x = reaches-there d k r i reaches in
@@ -203,7 +202,7 @@ module _ (code : First.Code) (ok : Fitting code) where
       }
 
   -- what a call hands over fits its function
-  callee-fits : (i g : ℕ) (to args : List ℕ) (fn : First.Plain) → Old.IsAt code i (few.Call to g args) → Old.IsFunction code g fn → (length args ≡ fn.params) × (length to ≡ fn.results)
+  callee-fits : (i g : ℕ) (to args : List ℕ) (fn : First.Plain) → First.IsAt code i (few.Call to g args) → First.IsFunction code g fn → (length args ≡ fn.params) × (length to ≡ fn.results)
   callee-fits i g to args fn at is =
       let s = good-somewhere code ok i (Call to (Static g) args) (at-there code i (few.Call to g args) at) in
       let good = s.1.good in
@@ -212,17 +211,17 @@ module _ (code : First.Code) (ok : Fitting code) where
       let f : good.3.callee ≡ fn = some-same (sym good.3.is ∙ (ap (slice_get code.functions) (sym number) ∙ is)) in
       (good.3.count ∙ ap (λ (y : First.Plain). y.params) f, good.3.results ∙ ap (λ (y : First.Plain). y.results) f)
 
-  argument-node : (i g k : ℕ) (to args : List ℕ) → Old.IsAt code i (few.Call to g args) → k < length args → HasLeaf (whole_of code) i (length to + k) 0 []
+  argument-node : (i g k : ℕ) (to args : List ℕ) → First.IsAt code i (few.Call to g args) → k < length args → HasLeaf (whole_of code) i (length to + k) 0 []
   argument-node i g k to args at w =
       let x = there args k w in
       has-node i (length to + k) x.0 (few.Call to g args) at (get-at to args (length to + k) k refl ∙ x.1)
 
-  result-node : (i g k : ℕ) (to args : List ℕ) → Old.IsAt code i (few.Call to g args) → k < length to → HasLeaf (whole_of code) i k 0 []
+  result-node : (i g k : ℕ) (to args : List ℕ) → First.IsAt code i (few.Call to g args) → k < length to → HasLeaf (whole_of code) i k 0 []
   result-node i g k to args at w =
       let x = there to k w in
       has-node i k x.0 (few.Call to g args) at (get-left to args k x.0 x.1)
 
-  enters-there : (i k g : ℕ) (to args : List ℕ) (fn : First.Plain) → Old.IsLivePlace code i → Old.IsAt code i (few.Call to g args) → Old.IsFunction code g fn → k < length args → WholeEdge i (length to + k) (Enters i) fn.entry k
+  enters-there : (i k g : ℕ) (to args : List ℕ) (fn : First.Plain) → First.IsLivePlace code i → First.IsAt code i (few.Call to g args) → First.IsFunction code g fn → k < length args → WholeEdge i (length to + k) (Enters i) fn.entry k
   enters-there i k g to args fn live at is w =
       let fits = callee-fits i g to args fn at is in
       let count = fits.0 in
@@ -235,20 +234,20 @@ module _ (code : First.Code) (ok : Fitting code) where
         moves = Drawn.call k g (length to) false (Call to (Static g) args) (Static g) args (whole_function fn) (at-there code i (few.Call to g args) at) Drawn.a_call by_call (target-there i g to args live at) (param-there (length args) k w) (function-there code g fn is);
       }
 
-  leave-node : (g k : ℕ) (fn : First.Plain) → Old.IsFunction code g fn → k < fn.results → HasLeaf (whole_of code) fn.leave k 0 []
+  leave-node : (g k : ℕ) (fn : First.Plain) → First.IsFunction code g fn → k < fn.results → HasLeaf (whole_of code) fn.leave k 0 []
   leave-node g k fn is w =
       let body = ok.bodies g fn is in
       let low = body.low in
       let high = body.high in
       let at = body.leaves.1 in
-      let inside : Old.IsIn fn.leave fn = (omega arith, omega arith) in
+      let inside : First.IsIn fn.leave fn = (omega arith, omega arith) in
       let s = good-at code ok fn.leave g (Leave body.leaves.0) (inside-there code ok fn.leave g fn is inside) (at-there code fn.leave (few.Leave body.leaves.0) at) in
       let same : s.function ≡ fn = some-same (sym s.is ∙ is) in
       let number : length body.leaves.0 ≡ fn.results = s.good.1 ∙ ap (λ (y : First.Plain). y.results) same in
       let x = there body.leaves.0 k (omega arith) in
       has-node fn.leave k x.0 (few.Leave body.leaves.0) at x.1
 
-  returns-there : (i k g : ℕ) (to args : List ℕ) (fn : First.Plain) → Old.IsLivePlace code i → Old.IsAt code i (few.Call to g args) → Old.IsFunction code g fn → k < length to → Old.cleans fn ≡ false → WholeEdge fn.leave k (Returns i) i k
+  returns-there : (i k g : ℕ) (to args : List ℕ) (fn : First.Plain) → First.IsLivePlace code i → First.IsAt code i (few.Call to g args) → First.IsFunction code g fn → k < length to → First.cleans fn ≡ false → WholeEdge fn.leave k (Returns i) i k
   returns-there i k g to args fn live at is w clean =
       let fits = callee-fits i g to args fn at is in
       let count = fits.1 in
@@ -261,16 +260,16 @@ module _ (code : First.Code) (ok : Fitting code) where
         moves = Drawn.return g false to args (Static g) (whole_function fn) (at-there code i (few.Call to g args) at) (target-there i g to args live at) (function-there code g fn is) refl w (cleans-as code i g fn is ∙ clean);
       }
 
-  abbrev whole-edge-kind : Old.EdgeKind → EdgeKind
-  whole-edge-kind Old.Within = Plain
-  whole-edge-kind (Old.Enters c) = Enters c
-  whole-edge-kind (Old.Returns c) = Returns c
+  abbrev whole-edge-kind : First.EdgeKind → EdgeKind
+  whole-edge-kind First.Within = Plain
+  whole-edge-kind (First.Enters c) = Enters c
+  whole-edge-kind (First.Returns c) = Returns c
 
-  edge-there : (d k i l : ℕ) (kind : Old.EdgeKind) → Old.Edge code d k kind i l → WholeEdge d k (whole-edge-kind kind) i l
-  edge-there d k i l kind (Old.within r live t reaches) = taken-by d k r i l (Old.kind_at code i) refl live t reaches
-  edge-there d k i l kind (Old.enters {k = n} to args g fn live at is el w ee) =
+  edge-there : (d k i l : ℕ) (kind : First.EdgeKind) → First.Edge code d k kind i l → WholeEdge d k (whole-edge-kind kind) i l
+  edge-there d k i l kind (First.within r live t reaches) = taken-by d k r i l (First.kind_at code i) refl live t reaches
+  edge-there d k i l kind (First.enters {k = n} to args g fn live at is el w ee) =
       subst (λ x. WholeEdge d x (Enters d) i n) (sym el) (subst (λ x. WholeEdge d (length to + n) (Enters d) x n) (sym ee) (enters-there d n g to args fn live at is w))
-  edge-there d k i l kind (Old.returns to args g fn live at is ex w clean) =
+  edge-there d k i l kind (First.returns to args g fn live at is ex w clean) =
       subst (λ x. WholeEdge x k (Returns i) i k) (sym ex) (returns-there i k g to args fn live at is w clean)
 
   -- lists of edges
@@ -285,22 +284,22 @@ module _ (code : First.Code) (ok : Fitting code) where
   returned : (i : ℕ) (calls : List ℕ) → after (Returns i) (i ∷ calls) ≡ Some calls
   returned i calls = ap (λ b. if b then Some calls else None) (same-number i)
 
-  listed : (s k b l : ℕ) (calls : List ℕ) → Old.Joins code s k b l calls → Listed s k b l calls
-  listed s k b l calls Old.stay = record { kinds = []; leads = stay; realizable = refl }
-  listed s k b l calls (Old.plain {b = m} {l = n} j e) = listed-more s k m n b l calls calls Plain (listed s k m n calls j) (edge-there m n b l Old.Within e) refl
-  listed s k b l calls (Old.call {b = m} {l = n} {i = i} {calls = held} j e) = listed-more s k m n b l held calls (Enters i) (listed s k m n held j) (edge-there m n b l (Old.Enters i) e) refl
-  listed s k b l calls (Old.return_last {b = m} {l = n} {i = i} j e) = listed-more s k m n b l (i ∷ calls) calls (Returns i) (listed s k m n (i ∷ calls) j) (edge-there m n b l (Old.Returns i) e) (returned i calls)
-  listed s k b l calls (Old.return_free {b = m} {l = n} {i = i} j e) = listed-more s k m n b l [] [] (Returns i) (listed s k m n [] j) (edge-there m n b l (Old.Returns i) e) refl
+  listed : (s k b l : ℕ) (calls : List ℕ) → First.Joins code s k b l calls → Listed s k b l calls
+  listed s k b l calls First.stay = record { kinds = []; leads = stay; realizable = refl }
+  listed s k b l calls (First.plain {b = m} {l = n} j e) = listed-more s k m n b l calls calls Plain (listed s k m n calls j) (edge-there m n b l First.Within e) refl
+  listed s k b l calls (First.call {b = m} {l = n} {i = i} {calls = held} j e) = listed-more s k m n b l held calls (Enters i) (listed s k m n held j) (edge-there m n b l (First.Enters i) e) refl
+  listed s k b l calls (First.return_last {b = m} {l = n} {i = i} j e) = listed-more s k m n b l (i ∷ calls) calls (Returns i) (listed s k m n (i ∷ calls) j) (edge-there m n b l (First.Returns i) e) (returned i calls)
+  listed s k b l calls (First.return_free {b = m} {l = n} {i = i} j e) = listed-more s k m n b l [] [] (Returns i) (listed s k m n [] j) (edge-there m n b l (First.Returns i) e) refl
 
-  source-there : (s k : ℕ) (c : Old.Calls code Old.is_source s) → k < length c.to → IsSource (whole_of code) (asked code) s (mark s k [])
+  source-there : (s k : ℕ) (c : First.Calls code First.is_source s) → k < length c.to → IsSource (whole_of code) (asked code) s (mark s k [])
   source-there s k c w =
-      Whole.by_call c.to c.args (Static c.number) c.number false (at-there code s (few.Call c.to c.number c.args) c.is_at) (target-there s c.number c.to c.args c.live c.is_at) (counts-as code Old.is_source s c.number c.function c.is_function ∙ c.counted) w
+      Whole.by_call c.to c.args (Static c.number) c.number false (at-there code s (few.Call c.to c.number c.args) c.is_at) (target-there s c.number c.to c.args c.live c.is_at) (counts-as code First.is_source s c.number c.function c.is_function ∙ c.counted) w
 
-  argument-there : (t k : ℕ) (c : Old.Calls code Old.is_sink t) → k < length c.args → IsArgument (whole_of code) (asked code) t k (mark t (length c.to + k) [])
+  argument-there : (t k : ℕ) (c : First.Calls code First.is_sink t) → k < length c.args → IsArgument (whole_of code) (asked code) t k (mark t (length c.to + k) [])
   argument-there t k c w =
-      is_argument (Call c.to (Static c.number) c.args) (Static c.number) c.args (length c.to) c.number false (at-there code t (few.Call c.to c.number c.args) c.is_at) by_call (target-there t c.number c.to c.args c.live c.is_at) (counts-as code Old.is_sink t c.number c.function c.is_function ∙ c.counted) w
+      is_argument (Call c.to (Static c.number) c.args) (Static c.number) c.args (length c.to) c.number false (at-there code t (few.Call c.to c.number c.args) c.is_at) by_call (target-there t c.number c.to c.args c.live c.is_at) (counts-as code First.is_sink t c.number c.function c.is_function ∙ c.counted) w
 
-  pub flow-there : (s t k : ℕ) → Old.IsFlow code s t k → Flow (whole_of code) (asked code) s t k
+  pub flow-there : (s t k : ℕ) → First.IsFlow code s t k → Flow (whole_of code) (asked code) s t k
   flow-there s t k f =
       let x = listed s f.result t (length f.sink.to + k) f.calls f.joins in
       record {

@@ -20,10 +20,10 @@ use Rattle.argot_first_form.specs.declared.steps.Action.TheVariants as actions
 use Rattle.argot_first_form.specs.declared.steps.Operand.{Operand}
 use Rattle.argot_first_form.specs.declared.steps.Operand.TheVariants as operands
 use Rattle.argot_first_form.specs.declared.steps.Step.{Step}
-use Rattle.argot_first.specs.declared.kinds.Kind.{Kind}
-use Rattle.argot_first.specs.declared.kinds.Kind.TheVariants.{RunDefers, Leave, Goto}
-use Rattle.argot_first.specs.Code.{Plain, Code, Instr, all_places, register, function_number, kind_of, items_functions, items_instrs, main_instrs, main_entry, main_number, main_name, entry_function, main_function, code_of}
-use Rattle.argot_first.specs.Flows.{IsAt, IsFunction}
+use Rattle.argot_plain.specs.declared.first.Kind.{Kind}
+use Rattle.argot_plain.specs.declared.first.Kind.TheVariants.{RunDefers, Leave, Goto}
+use Rattle.argot_plain.specs.First.{Plain, Code, Instr, IsAt, IsFunction}
+use Rattle.argot_first.specs.Code.{all_places, register, function_number, kind_of, items_functions, items_instrs, main_instrs, main_entry, main_number, main_name, entry_function, main_function, code_of}
 use Rattle.argot_first.specs.Marks.{kinds_from}
 use Rattle.argot_first.proofs.Lookup.{get-left, get-right, get-at, get-either}
 use Rattle.argot_first.proofs.Blocks.{StandsAt, stands-left, stands-right, block_of, results_of, length-kinds_of, items_kinds, items_kinds-is, length-items_kinds, main_steps, main_kinds, main_kinds-is, all_kinds, entry_kinds, items-stand, main-stand, kind_at-is}

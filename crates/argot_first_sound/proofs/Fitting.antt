@@ -1,10 +1,9 @@
 -- What a program's functions and places have to be for the whole program to be well formed.
 use Rattle.std.proofs.Common.{◌≡◌, ℕ, zero, suc, ◌+◌, ◌<◌, ◌≤◌, List, [], ◌∷◌, ◌++◌, Some, length, refl, sym, ap, ◌∙◌, subst, arith, ◌⊎◌, inl, inr}
 use Rattle.std.specs.Prelude.{slice_get}
-use Rattle.argot_first.specs.declared.kinds.Kind as Few
-use Rattle.argot_first.specs.declared.kinds.Kind.TheVariants as few
-use Rattle.argot_first.specs.Code as First
-use Rattle.argot_first.specs.Flows as Old
+use Rattle.argot_plain.specs.declared.first.Kind as Few
+use Rattle.argot_plain.specs.declared.first.Kind.TheVariants as few
+use Rattle.argot_plain.specs.First as First
 use Rattle.argot_plain.specs.declared.instructions.Callee.TheVariants.{Static}
 use Rattle.argot_plain.specs.declared.instructions.Kind.{Kind}
 use Rattle.argot_plain.specs.declared.instructions.Kind.TheVariants.{Op, Move, Call, RunDefers, Leave, Goto, Branch}
@@ -16,7 +15,7 @@ AreBelow rs n = (k r : ℕ) → slice_get rs k ≡ Some r → r < n
 
 pub record CallFits (code : First.Code) (f : First.Plain) (to : List ℕ) (g : ℕ) (args : List ℕ) : Type 0 where
   pub callee : First.Plain
-  pub is : Old.IsFunction code g callee
+  pub is : First.IsFunction code g callee
   pub count : length args ≡ callee.params
   pub results : length to ≡ callee.results
   pub few_results : length to ≤ 1
@@ -37,13 +36,13 @@ Good code f i _ = ⊥
 pub record Body (code : First.Code) (f : First.Plain) : Type 0 where
   pub kinds : List Few.Kind
   pub size : f.entry + length kinds ≡ f.leave + 1
-  pub stands : (j : ℕ) (kind : Few.Kind) → slice_get kinds j ≡ Some kind → Old.IsAt code (f.entry + j) kind
+  pub stands : (j : ℕ) (kind : Few.Kind) → slice_get kinds j ≡ Some kind → First.IsAt code (f.entry + j) kind
   pub each : (j : ℕ) (kind : Few.Kind) → slice_get kinds j ≡ Some kind → Good code f (f.entry + j) (whole_kind kind)
   pub low : f.entry < f.exit
   pub high : f.leave ≡ f.exit + 1
-  pub first : Old.IsAt code f.entry (few.Goto (f.entry + 1))
-  pub defers : Old.IsAt code f.exit few.RunDefers
-  pub leaves : (from : List ℕ) × Old.IsAt code f.leave (few.Leave from)
+  pub first : First.IsAt code f.entry (few.Goto (f.entry + 1))
+  pub defers : First.IsAt code f.exit few.RunDefers
+  pub leaves : (from : List ℕ) × First.IsAt code f.leave (few.Leave from)
 
 -- functions stand one behind the other, from b to before e
 abbrev pub Chain : ℕ → List First.Plain → ℕ → Type 0
@@ -51,10 +50,10 @@ Chain b [] e = b ≡ e
 Chain b (f ∷ fs) e = (f.entry ≡ b) × (f.entry ≤ f.leave) × Chain (f.leave + 1) fs e
 
 pub record Fitting (code : First.Code) : Type 0 where
-  pub bodies : (g : ℕ) (f : First.Plain) → Old.IsFunction code g f → Body code f
+  pub bodies : (g : ℕ) (f : First.Plain) → First.IsFunction code g f → Body code f
   pub chain : Chain 0 code.functions (length code.instrs)
   pub first : First.Plain
-  pub is_first : Old.IsFunction code 0 first
+  pub is_first : First.IsFunction code 0 first
   pub nameless : first.name ≡ []
   pub no_params : first.params ≡ 0
   pub no_results : first.results ≡ 0
@@ -97,7 +96,7 @@ pub record Covers (fs : List First.Plain) (i : ℕ) : Type 0 where
   pub number : ℕ
   pub function : First.Plain
   pub is : slice_get fs number ≡ Some function
-  pub inside : Old.IsIn i function
+  pub inside : First.IsIn i function
 
 compare : (i n : ℕ) → (i ≤ n) ⊎ (n + 1 ≤ i)
 compare zero n = inl (omega arith)

@@ -4,10 +4,9 @@ use Rattle.std.proofs.lemmas.Bool.{false≢true, eqb-true}
 use Rattle.std.proofs.lemmas.Bool.Decides.{nat_tests, Decides-eqb}
 use Rattle.std.specs.Prelude.{slice_get, nat_lt, if◌then◌else◌}
 use Rattle.argot_text.specs.declared.path.PathStep.{PathStep}
-use Rattle.argot_first.specs.declared.kinds.Kind as Few
-use Rattle.argot_first.specs.declared.kinds.Kind.TheVariants as few
-use Rattle.argot_first.specs.Code as First
-use Rattle.argot_first.specs.Flows as Old
+use Rattle.argot_plain.specs.declared.first.Kind as Few
+use Rattle.argot_plain.specs.declared.first.Kind.TheVariants as few
+use Rattle.argot_plain.specs.First as First
 use Rattle.argot_plain.specs.Lists.{member}
 use Rattle.argot_plain.specs.Code.{IsAt, IsFunction, IsIn, Hands, arguments, param_of}
 use Rattle.argot_plain.specs.Counts.{is_source, cleans, counts, in_wrapper, is_left_out, is_among, stands_for, counted_as}
@@ -33,11 +32,11 @@ use Rattle.argot_first_sound.specs.Laws.{FlowsAreFlows}
 use Rattle.argot_first_sound.proofs.Maps.{some-same, stands, is-few, function-there, function-back, inside-back, call-back, hands-on, successor-back, defines-back, defines-there}
 
 -- a member stands in the list
-member-by : (x y : ℕ) (ys : List ℕ) (b : Bool) → nat_eq x y ≡ b → (member x ys ≡ true → Old.In x ys) → (b || member x ys) ≡ true → Old.In x (y ∷ ys)
+member-by : (x y : ℕ) (ys : List ℕ) (b : Bool) → nat_eq x y ≡ b → (member x ys ≡ true → First.In x ys) → (b || member x ys) ≡ true → First.In x (y ∷ ys)
 member-by x y ys true e rec h = (0, ap Some (sym (eqb-true x y e)))
 member-by x y ys false e rec h = let m = rec h in (suc m.0, m.1)
 
-member-in : (x : ℕ) (xs : List ℕ) → member x xs ≡ true → Old.In x xs
+member-in : (x : ℕ) (xs : List ℕ) → member x xs ≡ true → First.In x xs
 member-in x [] h = absurd (false≢true h)
 member-in x (y ∷ ys) h = member-by x y ys (nat_eq x y) refl (member-in x ys) h
 
@@ -99,7 +98,7 @@ param-by n k j h = param-case (nat_lt k n) refl h
     param-case false e h = absurd cc
 
 module _ (code : First.Code) where
-  pub counts-as : (test : First.Plain → Bool) (i g : ℕ) (f : First.Plain) → Old.IsFunction code g f → counts (whole_of code) i g (numbers_of test 0 code.functions) ≡ test f
+  pub counts-as : (test : First.Plain → Bool) (i g : ℕ) (f : First.Plain) → First.IsFunction code g f → counts (whole_of code) i g (numbers_of test 0 code.functions) ≡ test f
   counts-as test i g f is =
       let ns = numbers_of test 0 code.functions in
       let a : not (is_left_out (whole_of code) i) ≡ true = not-left _ (in_wrapper i (map whole_function code.functions)) (no-wrapper i code.functions) in
@@ -107,22 +106,22 @@ module _ (code : First.Code) where
       let c : member g ns ≡ test f = ap (λ z. member z ns) (sym (zero-add g)) ∙ numbered test 0 g f code.functions is in
       ap (λ (z : Bool). z && is_among (stands_for (whole_of code) g) ns) a ∙ (ap (λ o. is_among o ns) b ∙ c)
 
-  pub cleans-as : (i g : ℕ) (f : First.Plain) → Old.IsFunction code g f → cleans (whole_of code) (asked code) i g ≡ Old.cleans f
-  cleans-as i g f is = ap (λ (z : Bool). z && not (is_source (whole_of code) (asked code) i g)) (counts-as is_sanitizer i g f is) ∙ ap (λ (z : Bool). is_sanitizer f && not z) (counts-as Old.is_source i g f is)
+  pub cleans-as : (i g : ℕ) (f : First.Plain) → First.IsFunction code g f → cleans (whole_of code) (asked code) i g ≡ First.cleans f
+  cleans-as i g f is = ap (λ (z : Bool). z && not (is_source (whole_of code) (asked code) i g)) (counts-as is_sanitizer i g f is) ∙ ap (λ (z : Bool). is_sanitizer f && not z) (counts-as First.is_source i g f is)
 
   -- a call by number of a live place
   pub record Called (i g : ℕ) (takes : Bool) : Type 0 where
     pub to : List ℕ
     pub args : List ℕ
-    pub live : Old.IsLivePlace code i
-    pub is_at : Old.IsAt code i (few.Call to g args)
+    pub live : First.IsLivePlace code i
+    pub is_at : First.IsAt code i (few.Call to g args)
     pub no_env : takes ≡ false
 
-  live-place : (i h : ℕ) → IsIn (whole_of code) i h → Old.Live code h → Old.IsLivePlace code i
+  live-place : (i h : ℕ) → IsIn (whole_of code) i h → First.Live code h → First.IsLivePlace code i
   live-place i h inside l = let f = inside-back code i h inside in record { number = h; function = f.0; live = l; is_function = f.1; inside = f.2 }
 
   abbrev Meaning : Fact → Type 0
-  Meaning (IsLive g) = Old.Live code g
+  Meaning (IsLive g) = First.Live code g
   Meaning (Targets i g takes) = Called i g takes
   Meaning (NodeRefers n to) = Unit {0}
   Meaning (PlaceRefers a to) = Unit {0}
@@ -130,14 +129,14 @@ module _ (code : First.Code) where
   static-same : (g h : ℕ) → Static g ≡ Static h → g ≡ h
   static-same g h e = cc e
 
-  called-by : (i g h n : ℕ) (kind : Kind) (args : List ℕ) → IsIn (whole_of code) i h → Old.Live code h → IsAt (whole_of code) i kind → Hands kind (Static g) args n → Called i g false
+  called-by : (i g h n : ℕ) (kind : Kind) (args : List ℕ) → IsIn (whole_of code) i h → First.Live code h → IsAt (whole_of code) i kind → Hands kind (Static g) args n → Called i g false
   called-by i g h n kind args inside l at hands =
       let c = hands-on code i kind (Static g) args n at hands in
       let e = static-same g c.number c.is_callee in
       record { to = c.to; args = args; live = live-place i h inside l; is_at = c.is_at ∙ ap (λ x. Some (few.Call c.to x args)) (sym e); no_env = refl }
 
-  live-by : (i g : ℕ) (takes : Bool) → Called i g takes → Old.Live code g
-  live-by i g takes c = Old.called c.live.number i c.live.function c.to c.args c.live.live c.live.is_function c.live.inside c.is_at
+  live-by : (i g : ℕ) (takes : Bool) → Called i g takes → First.Live code g
+  live-by i g takes c = First.called c.live.number i c.live.function c.to c.args c.live.live c.live.is_function c.live.inside c.is_at
 
   no-value : (i r n : ℕ) (kind : Kind) (args : List ℕ) → IsAt (whole_of code) i kind → Hands kind (Value r) args n → ⊥
   no-value i r n kind args at hands = let c = hands-on code i kind (Value r) args n at hands in let e = c.is_callee in cc e
@@ -146,22 +145,22 @@ module _ (code : First.Code) where
   no-method i r n name kind args at hands = let c = hands-on code i kind (Method r name) args n at hands in let e = c.is_callee in cc e
 
   meaning : {f : Fact} → Holds (whole_of code) f → Meaning f
-  meaning entry_is_live = Old.opening
+  meaning entry_is_live = First.opening
   meaning (target_is_live {g} i takes t) = live-by i g takes (meaning t)
   meaning (target_static {i} {g} h n kind args inside l at hands) = called-by i g h n kind args inside (meaning l) at hands
   meaning (target_value {i} h n d j r s path kind args site fn inside l at hands def refers is function isf env) = absurd (no-value i r n kind args at hands)
   meaning (target_method {i} h n d j r s name path kind args site inside l at hands def refers is wrapper) = absurd (no-method i r n name kind args at hands)
   meaning _ = tt
 
-  place-back : (i : ℕ) → IsLivePlace (whole_of code) i → Old.IsLivePlace code i
+  place-back : (i : ℕ) → IsLivePlace (whole_of code) i → First.IsLivePlace code i
   place-back i l = live-place i l.function l.is_in (meaning l.is_live)
 
   -- reaching
-  reaches-back : (d j r : ℕ) → Old.Defines code d j r → {i : ℕ} → Reaches (whole_of code) d r i → Old.Reaches code d j r i
-  reaches-back d j r def (next {j = i} s) = Old.next def (successor-back code d i s)
-  reaches-back d j r def (on {i = m} {j = i} before none s) = Old.onward (reaches-back d j r def before) (λ l x. none l (defines-there code m l r x)) (successor-back code m i s)
+  reaches-back : (d j r : ℕ) → First.Defines code d j r → {i : ℕ} → Reaches (whole_of code) d r i → First.Reaches code d j r i
+  reaches-back d j r def (next {j = i} s) = First.next def (successor-back code d i s)
+  reaches-back d j r def (on {i = m} {j = i} before none s) = First.onward (reaches-back d j r def before) (λ l x. none l (defines-there code m l r x)) (successor-back code m i s)
 
-  takes-by : (kind : Few.Kind) (k r : ℕ) (q q' : List PathStep) → Takes (asked code) (whole_kind kind) r q k q' → Old.Takes (Some kind) k r
+  takes-by : (kind : Few.Kind) (k r : ℕ) (q q' : List PathStep) → Takes (asked code) (whole_kind kind) r q k q' → First.Takes (Some kind) k r
   takes-by (few.Op to from) k r q q' t = (t.1, member-in r from t.0)
   takes-by (few.Move to from) k r q q' t = (t.1, t.0)
   takes-by (few.Call to g args) k r q q' t = (t.0, t.2, t.1)
@@ -170,10 +169,10 @@ module _ (code : First.Code) where
   takes-by (few.Goto target) k r q q' t = absurd t
   takes-by (few.Branch targets) k r q q' t = absurd t
 
-  takes-back : (i : ℕ) (kind : Kind) (k r : ℕ) (q q' : List PathStep) → IsAt (whole_of code) i kind → Takes (asked code) kind r q k q' → Old.Takes (Old.kind_at code i) k r
+  takes-back : (i : ℕ) (kind : Kind) (k r : ℕ) (q q' : List PathStep) → IsAt (whole_of code) i kind → Takes (asked code) kind r q k q' → First.Takes (First.kind_at code i) k r
   takes-back i kind k r q q' at t =
       let s = stands code i kind at in
-      subst (λ o. Old.Takes o k r) (sym s.is_at) (takes-by s.kind_there k r q q' (subst (λ x. Takes (asked code) x r q k q') s.is t))
+      subst (λ o. First.Takes o k r) (sym s.is_at) (takes-by s.kind_there k r q q' (subst (λ x. Takes (asked code) x r q k q') s.is t))
 
   no-writes : (m : Mark) (s : ℕ) (path : List PathStep) → Writes (whole_of code) m s path → ⊥
   no-writes m s path (by_write {i = i} d j at from live is def refers ok) = is-few code i (Write at from) is
@@ -184,12 +183,12 @@ module _ (code : First.Code) where
 
   -- the kinds of edges
   abbrev EdgeOf : EdgeKind → ℕ → ℕ → ℕ → ℕ → Type 0
-  EdgeOf Plain d k i l = Old.Edge code d k Old.Within i l
-  EdgeOf (Enters c) d k i l = Old.Edge code d k (Old.Enters c) i l
-  EdgeOf (Returns c) d k i l = Old.Edge code d k (Old.Returns c) i l
+  EdgeOf Plain d k i l = First.Edge code d k First.Within i l
+  EdgeOf (Enters c) d k i l = First.Edge code d k (First.Enters c) i l
+  EdgeOf (Returns c) d k i l = First.Edge code d k (First.Returns c) i l
   EdgeOf Reset d k i l = ⊥
 
-  call-edge : (i k g n j : ℕ) (takes : Bool) (kind : Kind) (callee : Callee) (args : List ℕ) (fn : Function) → IsAt (whole_of code) i kind → Hands kind callee args n → Called i g takes → param_of takes (length (arguments callee args)) k ≡ Some j → IsFunction (whole_of code) g fn → Old.Edge code i (n + k) (Old.Enters i) fn.entry j
+  call-edge : (i k g n j : ℕ) (takes : Bool) (kind : Kind) (callee : Callee) (args : List ℕ) (fn : Function) → IsAt (whole_of code) i kind → Hands kind callee args n → Called i g takes → param_of takes (length (arguments callee args)) k ≡ Some j → IsFunction (whole_of code) g fn → First.Edge code i (n + k) (First.Enters i) fn.entry j
   call-edge i k g n j takes kind callee args fn at hands t param is =
       let c = hands-on code i kind callee args n at hands in
       let f = function-back code g fn is in
@@ -200,20 +199,20 @@ module _ (code : First.Code) where
       let p1 : param_of false (length t.args) k ≡ Some j = subst (λ (z : List ℕ). param_of false (length z) k ≡ Some j) (xs ∙ sym list) (subst (λ b. param_of b (length (arguments callee args)) k ≡ Some j) t.no_env param) in
       let p = param-by (length t.args) k j p1 in
       let count : n + k ≡ length t.to + j = ap (λ z. z + k) (c.count ∙ ap length (sym to)) ∙ ap (λ z. length t.to + z) (sym p.1) in
-      Old.enters t.to t.args g f.0 t.live t.is_at f.1 count (subst (λ z. z < length t.args) (sym p.1) p.0) (ap (λ (x : Function). x.entry) f.2)
+      First.enters t.to t.args g f.0 t.live t.is_at f.1 count (subst (λ z. z < length t.args) (sym p.1) p.0) (ap (λ (x : Function). x.entry) f.2)
 
-  return-edge : (i k g : ℕ) (takes : Bool) (to args : List ℕ) (callee : Callee) (fn : Function) → IsAt (whole_of code) i (Call to callee args) → Called i g takes → IsFunction (whole_of code) g fn → k < length to → cleans (whole_of code) (asked code) i g ≡ false → Old.Edge code fn.leave k (Old.Returns i) i k
+  return-edge : (i k g : ℕ) (takes : Bool) (to args : List ℕ) (callee : Callee) (fn : Function) → IsAt (whole_of code) i (Call to callee args) → Called i g takes → IsFunction (whole_of code) g fn → k < length to → cleans (whole_of code) (asked code) i g ≡ false → First.Edge code fn.leave k (First.Returns i) i k
   return-edge i k g takes to args callee fn at t is within clean =
       let c = call-back code i to args callee at in
       let f = function-back code g fn is in
       let same : few.Call t.to g t.args ≡ few.Call to c.0 args = some-same (sym t.is_at ∙ c.2) in
       let to-is : t.to ≡ to = cc same in
-      Old.returns t.to t.args g f.0 t.live t.is_at f.1 (ap (λ (x : Function). x.leave) f.2) (subst (λ (z : List ℕ). k < length z) (sym to-is) within) (sym (cleans-as i g f.0 f.1) ∙ clean)
+      First.returns t.to t.args g f.0 t.live t.is_at f.1 (ap (λ (x : Function). x.leave) f.2) (subst (λ (z : List ℕ). k < length z) (sym to-is) within) (sym (cleans-as i g f.0 f.1) ∙ clean)
 
   moves-back : (m : Mark) (kind : EdgeKind) (n : Mark) → Moves (whole_of code) (asked code) m kind n → EdgeOf kind m.place m.index n.place n.index
   moves-back m e n (Drawn.plain {d} {j} {i} {k} {q} {q'} r kind live at takes def) =
       let y = defines-back code d j r def.defines in
-      Old.within r (place-back i live) (takes-back i kind k r q q' at takes) (reaches-back d j r y def.reaches)
+      First.within r (place-back i live) (takes-back i kind k r q q' at takes) (reaches-back d j r y def.reaches)
   moves-back m e n (Drawn.grown {i = i} to at items live is) = absurd (is-few code i (Grow to at items) is)
   moves-back m e n (Drawn.call {i = i} {j = j} k g c takes kind callee args fn at likewise hands targets param is) = call-edge i k g c j takes kind callee args fn at hands (meaning targets) param is
   moves-back m e n (Drawn.go {i = i} g takes callee args fn at targets param is) = absurd (is-few code i (Go callee args) at)
@@ -235,38 +234,38 @@ module _ (code : First.Code) where
   after-none [] calls h = cc h
   after-none (k ∷ ks) calls h = cc h
 
-  joins-return : (s k : ℕ) (a b : Node) (c o : ℕ) (os : List ℕ) (t : Bool) → nat_eq o c ≡ t → Old.Joins code s k a.place a.index (o ∷ os) → EdgeOf (Returns c) a.place a.index b.place b.index → (ks : List EdgeKind) (calls : List ℕ) → after_all ks (if t then Some os else None) ≡ Some calls → (os' : List ℕ) × Old.Joins code s k b.place b.index os' × (after_all ks (Some os') ≡ Some calls)
+  joins-return : (s k : ℕ) (a b : Node) (c o : ℕ) (os : List ℕ) (t : Bool) → nat_eq o c ≡ t → First.Joins code s k a.place a.index (o ∷ os) → EdgeOf (Returns c) a.place a.index b.place b.index → (ks : List EdgeKind) (calls : List ℕ) → after_all ks (if t then Some os else None) ≡ Some calls → (os' : List ℕ) × First.Joins code s k b.place b.index os' × (after_all ks (Some os') ≡ Some calls)
   joins-return s k a b c o os true e j edge ks calls h =
       let same : o ≡ c = eqb-true o c e in
-      (os, Old.return_last (subst (λ x. Old.Joins code s k a.place a.index (x ∷ os)) same j) edge, h)
+      (os, First.return_last (subst (λ x. First.Joins code s k a.place a.index (x ∷ os)) same j) edge, h)
   joins-return s k a b c o os false e j edge ks calls h = absurd (after-none ks calls h)
 
-  step-joins : (s k : ℕ) (a b : Node) (kind : EdgeKind) (held : List ℕ) → Old.Joins code s k a.place a.index held → EdgeOf kind a.place a.index b.place b.index → (ks : List EdgeKind) (calls : List ℕ) → after_all ks (after kind held) ≡ Some calls → (os : List ℕ) × Old.Joins code s k b.place b.index os × (after_all ks (Some os) ≡ Some calls)
-  step-joins s k a b Plain held j e ks calls h = (held, Old.plain j e, h)
-  step-joins s k a b (Enters c) held j e ks calls h = (c ∷ held, Old.call j e, h)
-  step-joins s k a b (Returns c) [] j e ks calls h = ([], Old.return_free j e, h)
+  step-joins : (s k : ℕ) (a b : Node) (kind : EdgeKind) (held : List ℕ) → First.Joins code s k a.place a.index held → EdgeOf kind a.place a.index b.place b.index → (ks : List EdgeKind) (calls : List ℕ) → after_all ks (after kind held) ≡ Some calls → (os : List ℕ) × First.Joins code s k b.place b.index os × (after_all ks (Some os) ≡ Some calls)
+  step-joins s k a b Plain held j e ks calls h = (held, First.plain j e, h)
+  step-joins s k a b (Enters c) held j e ks calls h = (c ∷ held, First.call j e, h)
+  step-joins s k a b (Returns c) [] j e ks calls h = ([], First.return_free j e, h)
   step-joins s k a b (Returns c) (o ∷ os) j e ks calls h = joins-return s k a b c o os (nat_eq o c) refl j e ks calls h
   step-joins s k a b Reset held j e ks calls h = absurd e
 
-  leads-back : (s k : ℕ) {a b : Node} {ks : List EdgeKind} → Leads (IsEdge (whole_of code) (asked code)) a ks b → (held calls : List ℕ) → Old.Joins code s k a.place a.index held → after_all ks (Some held) ≡ Some calls → Old.Joins code s k b.place b.index calls
-  leads-back s k (stay {a}) held calls j h = subst (Old.Joins code s k a.place a.index) (some-same h) j
+  leads-back : (s k : ℕ) {a b : Node} {ks : List EdgeKind} → Leads (IsEdge (whole_of code) (asked code)) a ks b → (held calls : List ℕ) → First.Joins code s k a.place a.index held → after_all ks (Some held) ≡ Some calls → First.Joins code s k b.place b.index calls
+  leads-back s k (stay {a}) held calls j h = subst (First.Joins code s k a.place a.index) (some-same h) j
   leads-back s k (go {a} {b} {c} {k = kind} {ks} e more) held calls j h =
       let x = step-joins s k a b kind held j (edge-back a kind b e) ks calls h in
       leads-back s k more x.0 calls x.1 x.2
 
   -- the ends
   pub record Begins (s : ℕ) (m : Mark) : Type 0 where
-    pub source : Old.Calls code Old.is_source s
+    pub source : First.Calls code First.is_source s
     pub place : m.place ≡ s
     pub within : m.index < length source.to
 
-  abbrev one-function : (i g : ℕ) (takes : Bool) → (t : Called i g takes) → (f : First.Plain) → Old.IsFunction code g f → (test : First.Plain → Bool) → test f ≡ true → Old.Calls code test i
+  abbrev one-function : (i g : ℕ) (takes : Bool) → (t : Called i g takes) → (f : First.Plain) → First.IsFunction code g f → (test : First.Plain → Bool) → test f ≡ true → First.Calls code test i
   one-function i g takes t f is test e = record { to = t.to; number = g; args = t.args; function = f; live = t.live; is_at = t.is_at; is_function = is; counted = e }
 
   -- a target that counts is a function
   pub record Counted (i g : ℕ) (test : First.Plain → Bool) : Type 0 where
     pub function : First.Plain
-    pub is : Old.IsFunction code g function
+    pub is : First.IsFunction code g function
     pub counted : test function ≡ true
 
   none-counts : (a : Bool) (ns : List ℕ) → (a && is_among None ns) ≡ true → ⊥
@@ -289,14 +288,14 @@ module _ (code : First.Code) where
   source-back s m (by_call {k = k} to args callee g takes at targets source within) =
       let t = meaning targets in
       let c = call-back code s to args callee at in
-      let f = counted Old.is_source s g source in
+      let f = counted First.is_source s g source in
       let same : few.Call t.to g t.args ≡ few.Call to c.0 args = some-same (sym t.is_at ∙ c.2) in
       let to-is : t.to ≡ to = cc same in
-      record { source = one-function s g takes t f.function f.is Old.is_source f.counted; place = refl; within = subst (λ (z : List ℕ). k < length z) (sym to-is) within }
+      record { source = one-function s g takes t f.function f.is First.is_source f.counted; place = refl; within = subst (λ (z : List ℕ). k < length z) (sym to-is) within }
   source-back s m (by_place e) = absurd (false≢true e)
 
   pub record Ends (t k : ℕ) (m : Mark) : Type 0 where
-    pub sink : Old.Calls code Old.is_sink t
+    pub sink : First.Calls code First.is_sink t
     pub place : m.place ≡ t
     pub within : k < length sink.args
     pub index : m.index ≡ length sink.to + k
@@ -305,13 +304,13 @@ module _ (code : First.Code) where
   argument-back t k m (is_argument kind callee args n g takes at hands targets sink within) =
       let c = hands-on code t kind callee args n at hands in
       let x = meaning targets in
-      let f = counted Old.is_sink t g sink in
+      let f = counted First.is_sink t g sink in
       let same : few.Call x.to g x.args ≡ few.Call c.to c.number args = some-same (sym x.is_at ∙ c.is_at) in
       let to : x.to ≡ c.to = cc same in
       let list : x.args ≡ args = cc same in
       let xs : arguments callee args ≡ args = ap (λ (z : Callee). arguments z args) c.is_callee in
       record {
-        sink = one-function t g takes x f.function f.is Old.is_sink f.counted;
+        sink = one-function t g takes x f.function f.is First.is_sink f.counted;
         place = refl;
         within = subst (λ (z : List ℕ). k < length z) (xs ∙ sym list) within;
         index = ap (λ z. z + k) (c.count ∙ ap length (sym to));
@@ -321,10 +320,10 @@ pub flows : FlowsAreFlows
 flows code s t k f =
     let a = source-back code s f.start f.source in
     let b = argument-back code t k f.end f.argument in
-    let begins : Old.Joins code s f.from.index f.from.place f.from.index [] = subst (λ x. Old.Joins code x f.from.index f.from.place f.from.index []) (f.is_from.place ∙ a.place) Old.stay in
+    let begins : First.Joins code s f.from.index f.from.place f.from.index [] = subst (λ x. First.Joins code x f.from.index f.from.place f.from.index []) (f.is_from.place ∙ a.place) First.stay in
     let j = leads-back code s f.from.index f.joins.leads [] f.joins.calls begins f.joins.realizable in
-    let j1 = subst (λ x. Old.Joins code s f.from.index x f.to.index f.joins.calls) (f.is_to.place ∙ b.place) j in
-    let j2 = subst (λ x. Old.Joins code s f.from.index t x f.joins.calls) (f.is_to.index ∙ b.index) j1 in
+    let j1 = subst (λ x. First.Joins code s f.from.index x f.to.index f.joins.calls) (f.is_to.place ∙ b.place) j in
+    let j2 = subst (λ x. First.Joins code s f.from.index t x f.joins.calls) (f.is_to.index ∙ b.index) j1 in
     record {
       source = a.source;
       result = f.from.index;

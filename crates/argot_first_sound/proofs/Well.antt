@@ -5,10 +5,9 @@ use Rattle.std.proofs.lemmas.Option.{slice_get_within}
 use Rattle.std.specs.Prelude.{slice_get, replicate}
 use Rattle.std.specs.List.{filter_map}
 use Rattle.argot_text.specs.declared.path.PathStep.{PathStep}
-use Rattle.argot_first.specs.declared.kinds.Kind as Few
-use Rattle.argot_first.specs.declared.kinds.Kind.TheVariants as few
-use Rattle.argot_first.specs.Code as First
-use Rattle.argot_first.specs.Flows as Old
+use Rattle.argot_plain.specs.declared.first.Kind as Few
+use Rattle.argot_plain.specs.declared.first.Kind.TheVariants as few
+use Rattle.argot_plain.specs.First as First
 use Rattle.argot_plain.specs.Lists.{In, here, there, IsDistinct, below}
 use Rattle.argot_plain.specs.Code.{IsAt, IsFunction, IsEntry, IsIn, Next, Successor, successor, Hands, by_call, by_go, by_defer, leaves, leaves_in, defined, reads}
 use Rattle.argot_plain.specs.WellFormed.{WellFormed, FitsStatic, reference_registers, HasRanges, HasNumbers, HasRegisters, ReadsBehindExit, RunsAtExit, LeavesAtLeave}
@@ -68,7 +67,7 @@ leaves-few (f ∷ fs) (suc g) r = leaves-few fs g r
 first-file : (xs : List First.Instr) (i : ℕ) (x : Instr) → slice_get (map whole_instr xs) i ≡ Some x → (x.at.file ≡ 0) × (x.tags ≡ [])
 first-file xs i x h = let y = map-back whole_instr xs i x h in (ap (λ (z : Instr). z.at.file) y.2, ap (λ (z : Instr). z.tags) y.2)
 
-kind-within : (xs : List First.Instr) (i : ℕ) (k : Few.Kind) → Old.kind_in (slice_get xs i) ≡ Some k → i < length xs
+kind-within : (xs : List First.Instr) (i : ℕ) (k : Few.Kind) → First.kind_in (slice_get xs i) ≡ Some k → i < length xs
 kind-within [] i k h = absurd (cc h)
 kind-within (x ∷ xs) zero k h = omega arith
 kind-within (x ∷ xs) (suc i) k h = let l = kind-within xs i k h in omega arith
@@ -169,19 +168,19 @@ module _ (code : First.Code) (ok : Fitting code) where
   counted = length-map code.functions whole_function
 
   -- a place of a function
-  at-place : (f : First.Plain) → Body code f → (i : ℕ) (kind : Kind) → Old.IsIn i f → IsAt (whole_of code) i kind → Good code f i kind
+  at-place : (f : First.Plain) → Body code f → (i : ℕ) (kind : Kind) → First.IsIn i f → IsAt (whole_of code) i kind → Good code f i kind
   at-place f b i kind inside at =
       let low = inside.0 in let high = inside.1 in let size = b.size in
       let s = stands code i kind at in
       let j : f.entry + (i - f.entry) ≡ i = omega arith in
       let k = get-there b.kinds (i - f.entry) (omega arith) in
-      let same : k.0 ≡ s.kind_there = some-same (sym (ap (Old.kind_at code) (sym j) ∙ b.stands (i - f.entry) k.0 k.1) ∙ s.is_at) in
+      let same : k.0 ≡ s.kind_there = some-same (sym (ap (First.kind_at code) (sym j) ∙ b.stands (i - f.entry) k.0 k.1) ∙ s.is_at) in
       subst (Good code f i) (ap whole_kind same ∙ sym s.is) (subst (λ z. Good code f z (whole_kind k.0)) j (b.each (i - f.entry) k.0 k.1))
 
   pub record Here (i g : ℕ) (kind : Kind) : Type 0 where
     pub function : First.Plain
-    pub is : Old.IsFunction code g function
-    pub inside : Old.IsIn i function
+    pub is : First.IsFunction code g function
+    pub inside : First.IsIn i function
     pub body : Body code function
     pub good : Good code function i kind
 
@@ -194,17 +193,17 @@ module _ (code : First.Code) (ok : Fitting code) where
   covered : (i : ℕ) (kind : Kind) → IsAt (whole_of code) i kind → Covers code.functions i
   covered i kind at = let s = stands code i kind at in chain-cover 0 (length code.instrs) code.functions i ok.chain (omega arith) (kind-within code.instrs i s.kind_there s.is_at)
 
-  pub inside-there : (i g : ℕ) (f : First.Plain) → Old.IsFunction code g f → Old.IsIn i f → IsIn (whole_of code) i g
+  pub inside-there : (i g : ℕ) (f : First.Plain) → First.IsFunction code g f → First.IsIn i f → IsIn (whole_of code) i g
   inside-there i g f is inside = record { fn = whole_function f; is = function-there code g f is; low = inside.0; high = inside.1 }
 
   pub good-somewhere : (i : ℕ) (kind : Kind) → IsAt (whole_of code) i kind → (g : ℕ) × Here i g kind
   good-somewhere i kind at = let c = covered i kind at in (c.number, good-at i c.number kind (inside-there i c.number c.function c.is c.inside) at)
 
-  pub leaves-at : (g r : ℕ) (f : First.Plain) → Old.IsFunction code g f → r < registers_of f → leaves (whole_of code) g r ≡ one_leaf
+  pub leaves-at : (g r : ℕ) (f : First.Plain) → First.IsFunction code g f → r < registers_of f → leaves (whole_of code) g r ≡ one_leaf
   leaves-at g r f is h = ap (λ o. leaves_in o r) (function-there code g f is) ∙ leaf-get f (registers_of f) r h
 
   -- a function of the whole program is one of the code
-  same-function : (g : ℕ) (f : First.Plain) (fn : Function) → Old.IsFunction code g f → IsFunction (whole_of code) g fn → fn ≡ whole_function f
+  same-function : (g : ℕ) (f : First.Plain) (fn : Function) → First.IsFunction code g f → IsFunction (whole_of code) g fn → fn ≡ whole_function f
   same-function g f fn is h = some-same (sym h ∙ function-there code g f is)
 
   ranges : HasRanges (whole_of code)
@@ -250,7 +249,7 @@ module _ (code : First.Code) (ok : Fitting code) where
         results = λ to2 callee e. let x : to ≡ to2 = cc e in ap length (sym x) ∙ c.results;
         returned = λ to2 from callee k r s e none left a z.
             let x : to ≡ to2 = cc e in
-            let last : Old.IsIn c.callee.leave c.callee = (omega arith, omega arith) in
+            let last : First.IsIn c.callee.leave c.callee = (omega arith, omega arith) in
             let good = at-place c.callee b c.callee.leave (Leave from) last left in
             leaves-at g r here.function here.is (c.to_below k r (subst (λ (y : List ℕ). slice_get y k ≡ Some r) (sym x) a)) ∙ sym (leaves-at h s c.callee c.is (good.2 k s z));
       }
@@ -265,7 +264,7 @@ module _ (code : First.Code) (ok : Fitting code) where
   callee-there i h n kind args at by_go = absurd (is-few code i (Go (Static h) args) at)
   callee-there i h n kind args at by_defer = absurd (is-few code i (Defer (Static h) args) at)
 
-  goes-one : (i j : ℕ) → Successor (whole_of code) i j → (f : First.Plain) (g : ℕ) → Old.IsFunction code g f → Old.IsIn i f → (j ≡ i + 1) × (i < f.leave)
+  goes-one : (i j : ℕ) → Successor (whole_of code) i j → (f : First.Plain) (g : ℕ) → First.IsFunction code g f → First.IsIn i f → (j ≡ i + 1) × (i < f.leave)
   goes-one i j (successor kind at next) f g is inside =
       let b = ok.bodies g f is in next-one code f i j kind b.high (at-place f b i kind inside at) next
 
@@ -289,7 +288,7 @@ module _ (code : First.Code) (ok : Fitting code) where
       inside-there j g f.0 f.1 (omega arith, omega arith)
 
   -- a function's own record is that of the place
-  same-plain : (g : ℕ) (f : First.Plain) (fn : Function) → Old.IsFunction code g f → IsFunction (whole_of code) g fn → whole_function f ≡ fn
+  same-plain : (g : ℕ) (f : First.Plain) (fn : Function) → First.IsFunction code g f → IsFunction (whole_of code) g fn → whole_function f ≡ fn
   same-plain g f fn is h = sym (same-function g f fn is h)
 
   runs : RunsAtExit (whole_of code)

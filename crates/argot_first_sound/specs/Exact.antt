@@ -2,7 +2,8 @@
 use Rattle.std.specs.Prelude.{◌≡◌, ℕ, ◌+◌, List, Some, length, slice_get}
 use Rattle.argot_first_form.specs.Tree.{File}
 use Rattle.argot_first_form.specs.Form.{IsFirstForm}
-use Rattle.argot_first.specs.Code as First
+use Rattle.argot_plain.specs.First as First
+use Rattle.argot_first.specs.Code.{code_of}
 use Rattle.argot_first.specs.Answer.{IsBefore, IsReport, report}
 use Rattle.argot_first.specs.declared.found.Flow as Found
 use Rattle.argot_facts.specs.Flows.{Flow}
@@ -21,9 +22,9 @@ pub record AreWholeFlows (code : First.Code) (flows : List Found.Flow) : Type 0 
 -- the number of these flows, and their report
 pub record IsWholeReport (file : File) (bytes : List ℕ) (count : ℕ) (text : List ℕ) : Type 0 where
   pub flows : List Found.Flow
-  pub are_flows : AreWholeFlows (First.code_of file) flows
+  pub are_flows : AreWholeFlows (code_of file) flows
   pub counted : count ≡ length flows
-  pub reported : text ≡ report bytes (First.code_of file) flows
+  pub reported : text ≡ report bytes (code_of file) flows
 
 -- a report of the form's own flows is one of the whole relation
 abbrev pub ReportsAreExact : Type 0

@@ -3,10 +3,10 @@ use Rattle.std.specs.Prelude.{ℕ, ◌+◌, ◌-◌, Bool, false, List, [], ◌�
 use Rattle.std.specs.Str.{bytes_eq}
 use Rattle.argot_text.specs.declared.position.Pos.{Pos}
 use Rattle.argot_text.specs.declared.path.PathStep.{PathStep}
-use Rattle.argot_first.specs.declared.kinds.Kind as Few
-use Rattle.argot_first.specs.declared.kinds.Kind.TheVariants as few
-use Rattle.argot_first.specs.Code as First
-use Rattle.argot_first.specs.Flows.{is_source, is_sink}
+use Rattle.argot_plain.specs.declared.first.Kind as Few
+use Rattle.argot_plain.specs.declared.first.Kind.TheVariants as few
+use Rattle.argot_plain.specs.First as First
+use Rattle.argot_plain.specs.First.{is_source, is_sink}
 use Rattle.argot_plain.specs.Code.{Code}
 use Rattle.argot_plain.specs.declared.functions.Function.{Function}
 use Rattle.argot_plain.specs.declared.functions.Ident.{Ident}

@@ -8,3 +8,4 @@ pub mod Puts
 pub mod Outside
 pub mod Step
 pub mod Leak
+pub mod First

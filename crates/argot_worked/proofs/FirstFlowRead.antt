@@ -14,9 +14,10 @@ use Rattle.argot_first_form.specs.declared.functions.Returned.{Returned}
 use Rattle.argot_first_form.specs.declared.functions.Returned.TheVariants as returns
 use Rattle.argot_first_form.specs.declared.steps.Step.{Step}
 use Rattle.argot_first_form.proofs.Files.{read-exact}
-use Rattle.argot_first.specs.declared.kinds.Kind as Few
-use Rattle.argot_first.specs.declared.kinds.Kind.TheVariants as few
-use Rattle.argot_first.specs.Code.{Plain, Code, Instr, all_places, items_instrs, items_functions, main_name, main_instrs, entry_function, main_function, code_of}
+use Rattle.argot_plain.specs.declared.first.Kind as Few
+use Rattle.argot_plain.specs.declared.first.Kind.TheVariants as few
+use Rattle.argot_plain.specs.First.{Plain, Code, Instr}
+use Rattle.argot_first.specs.Code.{all_places, items_instrs, items_functions, main_name, main_instrs, entry_function, main_function, code_of}
 use Rattle.argot_first.specs.Marks.{kinds_from}
 use Rattle.argot_first.specs.Report.{places_of, all_places_of}
 use Rattle.argot_first.proofs.Blocks.{block_of, kinds_of, kinds_of-append, items_kinds, items_kinds-is, main_kinds, main_kinds-is}

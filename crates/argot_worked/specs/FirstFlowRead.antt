@@ -11,7 +11,7 @@
 use Rattle.std.specs.Prelude.{◌↔◌, ℕ, List, [], ◌∷◌, ◌++◌, codes}
 use Rattle.argot_first_form.specs.Tree.{File}
 use Rattle.argot_first_form.specs.Form.{IsFirstForm, HasFirstForm}
-use Rattle.argot_first.specs.Code as First
+use Rattle.argot_first.specs.Code.{code_of}
 use Rattle.argot_plain.specs.Lists.{In}
 use Rattle.argot_facts.specs.Graphs.{IsEdge}
 use Rattle.argot_facts.specs.declared.graphs.EdgeKind.{EdgeKind}
@@ -36,9 +36,9 @@ its_text =
 
 -- its code, as a whole program, has exactly these places, nodes and edges
 pub record IsDrawn (file : File) : Type 0 where
-  pub places : HasTwentyPlaces (whole_of (First.code_of file))
-  pub nodes : HasSevenNodes (whole_of (First.code_of file))
-  pub edges : (a : Node) (kind : EdgeKind) (b : Node) → IsEdge (whole_of (First.code_of file)) (asked (First.code_of file)) a kind b ↔ In (a, kind, b) its_edges
+  pub places : HasTwentyPlaces (whole_of (code_of file))
+  pub nodes : HasSevenNodes (whole_of (code_of file))
+  pub edges : (a : Node) (kind : EdgeKind) (b : Node) → IsEdge (whole_of (code_of file)) (asked (code_of file)) a kind b ↔ In (a, kind, b) its_edges
 
 -- the bytes have the first form
 abbrev pub ItHasTheForm : Type 0

@@ -3,7 +3,7 @@ use Rattle.std.proofs.lemmas.List.{length-replicate}
 use Rattle.std.proofs.lemmas.Option.{slice_get_read}
 use Rattle.std.specs.Prelude.{slice_get}
 use Rattle.argot_first_form.specs.declared.functions.Function.{Function}
-use Rattle.argot_first.specs.declared.kinds.Kind.{Kind}
+use Rattle.argot_plain.specs.declared.first.Kind.{Kind}
 use Rattle.argot_first.specs.declared.found.Flow.{Flow}
 use Rattle.argot_first.specs.Links.{Adds, step_along, heads_after, nexts_after}
 use Rattle.argot_first.proofs.Agree.{walked-none, walked-more}

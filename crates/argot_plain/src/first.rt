@@ -1,4 +1,5 @@
-//! The instructions of plain code.
+//! Plain code of the first form: programs in one file without branches, whose values are all texts. It has seven kinds of
+//! instructions, and `specs/First.antt` its programs and their flows.
 
 use sqlite_items::Items;
 

@@ -1,9 +1,28 @@
--- The flows of plain code. Each register holds a text, whose one leaf has the number 0: so a node is a place with an index.
+-- Plain code of the first form and its flows: the seven kinds that straight-line programs on texts need. Each register
+-- holds a text, whose one leaf has the number 0: so a node is a place with an index.
 use Rattle.std.specs.Prelude.{◌≡◌, ◌⊎◌, ℕ, ◌+◌, ◌<◌, ◌≤◌, List, [], ◌∷◌, length, Bool, true, false, not, ◌&&◌, Option, Some, None, slice_get, codes}
 use Rattle.std.specs.Str.{bytes_eq}
-use Rattle.argot_first.specs.declared.kinds.Kind.{Kind}
-use Rattle.argot_first.specs.declared.kinds.Kind.TheVariants.{Op, Move, Call, RunDefers, Leave, Goto, Branch}
-use Rattle.argot_first.specs.Code.{Instr, Plain, Code}
+use Rattle.argot_plain.specs.declared.first.Kind.{Kind}
+use Rattle.argot_plain.specs.declared.first.Kind.TheVariants.{Op, Move, Call, RunDefers, Leave, Goto, Branch}
+
+-- an instruction, with the offset of its position in the file
+pub record Instr : Type 0 where
+  pub kind : Kind
+  pub at : ℕ
+
+-- a function: its first place, the place of its RunDefers, its last place, and how many parameters and results it has
+pub record Plain : Type 0 where
+  pub name : List ℕ
+  pub entry : ℕ
+  pub exit : ℕ
+  pub leave : ℕ
+  pub params : ℕ
+  pub results : ℕ
+
+-- the functions, by number, and the instructions of all functions, by place
+pub record Code : Type 0 where
+  pub functions : List Plain
+  pub instrs : List Instr
 
 -- x stands in the list
 abbrev pub In : ℕ → List ℕ → Type 0
