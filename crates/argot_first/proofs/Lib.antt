@@ -1,6 +1,7 @@
 pub mod Turns
 pub mod Lines
 pub mod Lookup
+pub mod Numbers
 pub mod Blocks
 pub mod Shape
 pub mod Before

@@ -4,6 +4,7 @@ pub mod Exact
 pub mod Files
 pub mod Sound
 pub mod Checking
+pub mod Tables
 pub mod Programs
 pub mod Bounds
 pub mod Reserved

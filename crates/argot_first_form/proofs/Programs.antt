@@ -7,7 +7,7 @@ use Rattle.argot_first_form.specs.Tree.{File}
 use Rattle.argot_first_form.specs.Steps.{functions_of, steps_of}
 use Rattle.argot_first_form.specs.Form.{IsFirstForm, HasFirstForm, FunctionsFit, StepsFit, BracketsFit}
 use Rattle.argot_first_form.specs.Reading.{read}
-use Rattle.argot_first_form.specs.Whole.{IsProgram}
+use Rattle.argot_first_form.specs.Whole.{IsProgram, NamesFit}
 use Rattle.argot_first_form.proofs.Files.{read-exact}
 use Rattle.argot_first_form.proofs.Sound.{read-sound}
 
@@ -27,13 +27,13 @@ read-parts bytes p h e =
 pub unread : (bytes : List ℕ) → read bytes ≡ None → HasFirstForm bytes → ⊥
 unread bytes e h = let s = sym e ∙ read-of bytes h in cc s
 
-pub unfit : (bytes : List ℕ) (p : Program) → read bytes ≡ Some (p.functions, p.steps) → (FunctionsFit p.functions → ⊥) → HasFirstForm bytes → ⊥
-unfit bytes p e refused h = refused (subst FunctionsFit (sym (read-parts bytes p h e).0) h.1.functions)
-
-pub unfit_steps : (bytes : List ℕ) (p : Program) → read bytes ≡ Some (p.functions, p.steps) → (StepsFit p.functions p.steps → ⊥) → HasFirstForm bytes → ⊥
-unfit_steps bytes p e refused h =
+pub unfit : (bytes : List ℕ) (p : Program) → read bytes ≡ Some (p.functions, p.steps) → (NamesFit p → ⊥) → HasFirstForm bytes → ⊥
+unfit bytes p e refused h =
     let q = read-parts bytes p h e in
-    refused (subst (λ fs. StepsFit fs p.steps) (sym q.0) (subst (λ ss. StepsFit (functions_of h.0.items) ss) (sym q.1) h.1.steps))
+    refused (record {
+      functions = subst FunctionsFit (sym q.0) h.1.functions;
+      steps = subst (λ fs. StepsFit fs p.steps) (sym q.0) (subst (λ ss. StepsFit (functions_of h.0.items) ss) (sym q.1) h.1.steps);
+    })
 
 pub long : (bytes : List ℕ) → 4096 < length bytes → HasFirstForm bytes → ⊥
 long bytes l h = let s = h.1.short in omega arith
@@ -41,8 +41,8 @@ long bytes l h = let s = h.1.short in omega arith
 pub deep : (bytes : List ℕ) → (BracketsFit bytes → ⊥) → HasFirstForm bytes → ⊥
 deep bytes refused h = refused h.1.brackets
 
-pub found : (bytes : List ℕ) (p : Program) → read bytes ≡ Some (p.functions, p.steps) → length bytes ≤ 4096 → BracketsFit bytes → FunctionsFit p.functions → StepsFit p.functions p.steps → IsProgram bytes p
-found bytes p e short brackets functions steps =
+pub found : (bytes : List ℕ) (p : Program) → read bytes ≡ Some (p.functions, p.steps) → length bytes ≤ 4096 → BracketsFit bytes → NamesFit p → IsProgram bytes p
+found bytes p e short brackets fit =
     let s = read-sound bytes (p.functions, p.steps) e in
     let file : File = s.0 in
     let x : read bytes ≡ Some (functions_of file.items, steps_of file) = ap read (sym s.2) ∙ read-exact file s.1 in
@@ -55,8 +55,8 @@ found bytes p e short brackets functions steps =
       form = record {
         text = s.2;
         words = s.1;
-        functions = subst FunctionsFit f functions;
-        steps = subst (λ fs. StepsFit fs (steps_of file)) f (subst (λ ss. StepsFit p.functions ss) t steps);
+        functions = subst FunctionsFit f fit.functions;
+        steps = subst (λ fs. StepsFit fs (steps_of file)) f (subst (λ ss. StepsFit p.functions ss) t fit.steps);
         short = short;
         brackets = brackets;
       };

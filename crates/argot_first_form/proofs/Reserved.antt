@@ -1,5 +1,5 @@
 -- The code's list of words is the definition's.
-use Rattle.std.proofs.Common.{◌≡◌, ℕ, List, Bool, refl}
+use Rattle.std.proofs.Common.{◌≡◌, ℕ, List, refl}
 use Rattle.std.specs.List.{list_any}
 use Rattle.std.specs.Str.{bytes_eq}
 use Rattle.argot_first_form.specs.Bytes.{is_reserved}

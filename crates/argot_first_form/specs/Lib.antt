@@ -5,5 +5,6 @@ pub mod Steps
 pub mod Front
 pub mod Reading
 pub mod Form
+pub mod Names
 pub mod Checks
 pub mod Whole

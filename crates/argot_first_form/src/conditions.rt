@@ -1,11 +1,14 @@
 //! The conditions on the names of a program's functions.
 
-ghost use Rattle.std.specs.Prelude.{◌≡◌, ◌↔◌, IsTrue, not};
+ghost use Rattle.std.specs.Prelude.{◌≡◌, ◌↔◌, IfOk, IsTrue, not};
 ghost use Rattle.std.specs.List.{list_all};
 ghost use Rattle.argot_first_form.specs.Form.{among, distinct, names_of, returns_own, FunctionsFit};
+ghost use Rattle.argot_first_form.specs.Names.{HasFunctions};
 
 use crate::functions::{Function, Returned};
+use crate::names::{Scope, functions_differ, knows, names_differ};
 use crate::steps::Name;
+use std::alloc::{AllocError, Global};
 
 /// Whether the name is among these.
 pub fn is_among(names: &[Name], name: &[u8]) -> bool
@@ -15,45 +18,23 @@ pub fn is_among(names: &[Name], name: &[u8]) -> bool
 }
 
 /// Whether one of the functions has this name.
-pub fn has_name(functions: &[Function], name: &[u8]) -> bool
-    ensures { result ≡ among (names_of functions.now) name.now }
+pub fn has_name(scope: &Scope<'_>, name: &[u8]) -> bool
+    requires { HasFunctions scope.now.numbers 0 scope.now.functions.now }
+    ensures { result ≡ among (names_of scope.now.functions.now) name.now }
 {
-    for function in functions {
-        if function.name.as_slice() == name {
-            return true;
-        }
-    }
-    false
+    knows(&scope.numbers, name)
 }
 
-fn names_differ(names: &[Name]) -> bool
-    ensures { result ≡ distinct names.now }
+fn are_apart(scope: &Scope<'_>, names: &[Name]) -> bool
+    requires { HasFunctions scope.now.numbers 0 scope.now.functions.now }
+    ensures { result ≡ list_all (λ p. not (among (names_of scope.now.functions.now) p)) names.now }
 {
-    for (i, name) in names.iter().enumerate() {
-        if is_among(&names[i + 1..], name.as_slice()) {
+    for name in names {
+        if has_name(scope, name.as_slice()) {
             return false;
         }
     }
     true
-}
-
-fn functions_differ(functions: &[Function]) -> bool
-    ensures { result ≡ distinct (names_of functions.now) }
-{
-    for (i, function) in functions.iter().enumerate() {
-        if has_name(&functions[i + 1..], function.name.as_slice()) {
-            return false;
-        }
-    }
-    true
-}
-
-fn are_apart(functions: &[Function], names: &[Name]) -> bool
-    ensures { result ≡ list_all (λ p. not (among (names_of functions.now) p)) names.now }
-{
-    names
-        .iter()
-        .all(|name| !has_name(functions, name.as_slice()))
 }
 
 fn returns_own(parameters: &[Name], returned: &Returned) -> bool
@@ -66,18 +47,27 @@ fn returns_own(parameters: &[Name], returned: &Returned) -> bool
     }
 }
 
-fn all_parameters_differ(functions: &[Function]) -> bool
-    ensures { result ≡ list_all (λ f. distinct f.parameters) functions.now }
+fn all_parameters_differ(alloc: Global, functions: &[Function]) -> Result<bool, AllocError>
+    ensures { IfOk result (λ b. b ≡ list_all (λ f. distinct f.parameters) functions.now) }
 {
-    functions
-        .iter()
-        .all(|function| names_differ(function.parameters.as_slice()))
+    for function in functions {
+        if !names_differ(alloc, function.parameters.as_slice())? {
+            return Ok(false);
+        }
+    }
+    Ok(true)
 }
 
-fn all_parameters_apart(functions: &[Function]) -> bool
-    ensures { result ≡ list_all (λ f. list_all (λ p. not (among (names_of functions.now) p)) f.parameters) functions.now }
+fn all_parameters_apart(scope: &Scope<'_>) -> bool
+    requires { HasFunctions scope.now.numbers 0 scope.now.functions.now }
+    ensures { result ≡ list_all (λ f. list_all (λ p. not (among (names_of scope.now.functions.now) p)) f.parameters) scope.now.functions.now }
 {
-    functions.iter().all(|function| are_apart(functions, function.parameters.as_slice()))
+    for function in scope.functions {
+        if !are_apart(scope, function.parameters.as_slice()) {
+            return false;
+        }
+    }
+    true
 }
 
 fn all_return_own(functions: &[Function]) -> bool
@@ -87,11 +77,11 @@ fn all_return_own(functions: &[Function]) -> bool
 }
 
 /// Whether the names of the functions meet the conditions.
-pub fn functions_fit(functions: &[Function]) -> bool
-    ensures { IsTrue result ↔ FunctionsFit functions.now }
+pub fn functions_fit(alloc: Global, scope: &Scope<'_>) -> Result<bool, AllocError>
+    requires { HasFunctions scope.now.numbers 0 scope.now.functions.now }
+    ensures { IfOk result (λ b. IsTrue b ↔ FunctionsFit scope.now.functions.now) }
 {
-    functions_differ(functions)
-        && all_parameters_differ(functions)
-        && all_parameters_apart(functions)
-        && all_return_own(functions)
+    let differ = functions_differ(alloc, scope.functions)?
+        && all_parameters_differ(alloc, scope.functions)?;
+    Ok(differ && all_parameters_apart(scope) && all_return_own(scope.functions))
 }

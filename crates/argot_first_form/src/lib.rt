@@ -10,6 +10,7 @@ mod fault;
 mod functions;
 mod headers;
 mod lines;
+mod names;
 mod reader;
 mod scopes;
 mod statements;
@@ -19,6 +20,7 @@ mod whole;
 
 pub use functions::{Function, Returned};
 pub use lines::Program;
-pub use scopes::{declares, has_result};
+pub use names::{Names, Scope, number_of, scope_of, step_numbers};
+pub use scopes::has_result;
 pub use steps::{Action, Name, Operand, Step};
 pub use whole::read;
