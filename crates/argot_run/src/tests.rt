@@ -268,3 +268,148 @@ fn flows_of_the_worked_programs(rt: HostRuntime) -> Result<(), Fail> {
         CLEAN,
     )
 }
+
+// A file with each form of line.
+const LINES: [&str; 23] = [
+    "package main\n",
+    "func source() string { return \"a 1\" }\n",
+    "func sink(x string) {}\n",
+    "func id(x string) string { return x }\n",
+    "func f() {}\n",
+    "func g() string { return \"\" }\n",
+    "func two(a string, b string) {}\n",
+    "\n",
+    "func it() {}\n",
+    "func lan() {}\n",
+    "func maim() {}\n",
+    "func inot() {}\n",
+    "func main() {\n",
+    "\tu := id(source())\n",
+    "\tv := \"ok\"\n",
+    "\tw := g()\n",
+    "\tz := \"\"\n",
+    "\ty := w\n",
+    "\tv = u\n",
+    "\tf()\n",
+    "\ttwo(w, \"b\")\n",
+    "\tsink(v)\n",
+    "}\n",
+];
+
+// Runs `taint` over these lines, where one of them is another.
+fn with_line<R: Abort + Threads + Sync + AllocGlobal>(
+    rt: &R,
+    number: usize,
+    line: &str,
+    status: Status,
+    out: &str,
+    err: &str,
+) -> Result<(), Fail> {
+    let mut text = String::new(rt.alloc());
+    for (i, own) in LINES.iter().enumerate() {
+        text.push_str(if i == number { line } else { own })?;
+    }
+    folder(rt, "p", &[("p/main.go", text.as_str())], status, out, err)
+}
+
+#[test]
+fn each_byte_counts(rt: HostRuntime) -> Result<(), Fail> {
+    with_line(
+        &rt,
+        LINES.len(),
+        "",
+        Status::Found,
+        "flow default: main.go:14:10 main.source -> main.go:22:2 main.sink arg 0\n1 flows, 0 escapes\n",
+        "",
+    )?;
+    let broken = [
+        (0, "Package main\n"),
+        (0, "package main \n"),
+        // a byte that may not stand in quotes, a quote or a space that is missing
+        (1, "func source() string { return \"a-1\" }\n"),
+        (1, "func source() string { return \"a 1 }\n"),
+        (1, "func source() string {return \"a 1\" }\n"),
+        (2, "func sink(x String) {}\n"),
+        (2, "func sink(x string){}\n"),
+        // the name after return is no parameter
+        (3, "func id(x string) string { return y }\n"),
+        // parameters without a space between, two of one name, and one with a function's name
+        (6, "func two(a string,b string) {}\n"),
+        (6, "func two(a string, a string) {}\n"),
+        (6, "func two(a string, f string) {}\n"),
+        (7, " \n"),
+        // names: a digit first, another byte, a keyword, a function's own, predeclared, main, init
+        (8, "func 1t() {}\n"),
+        (8, "func i_() {}\n"),
+        (8, "func if() {}\n"),
+        (8, "func id() {}\n"),
+        (9, "func len() {}\n"),
+        (10, "func main() {}\n"),
+        (11, "func init() {}\n"),
+        (12, "func main(){\n"),
+        (12, "func main() { \n"),
+        // an unknown function, and a bracket that is missing
+        (13, "\tu := if(source())\n"),
+        (13, "\tu := id(source()\n"),
+        // no tab, and no space
+        (14, " v := \"ok\"\n"),
+        (14, "\tv :=\"ok\"\n"),
+        // a call without a result as a value
+        (15, "\tw := f()\n"),
+        // a variable that is declared twice, or has a function's name
+        (16, "\tu := \"\"\n"),
+        (16, "\tf := \"\"\n"),
+        // variables that aren't declared, or not yet
+        (18, "\tq = u\n"),
+        (18, "\tv = q\n"),
+        (17, "\ty := y\n"),
+        (21, "\tsink(q)\n"),
+        // an argument too many, one too few, and no space between
+        (19, "\tf(u)\n"),
+        (21, "\tsink()\n"),
+        (20, "\ttwo(w,\"b\")\n"),
+        // a call of an unknown function as a statement
+        (21, "\tsunk(v)\n"),
+        // a space before the brace, and no newline at the end
+        (22, " }\n"),
+        (22, "}"),
+    ];
+    for (number, line) in broken.iter() {
+        with_line(&rt, *number, line, Status::Unsupported, "", OTHER)?;
+    }
+    Ok(())
+}
+
+// A sink's argument with so many calls around a source's.
+fn nested<R: Abort + Threads + Sync + AllocGlobal>(
+    rt: &R,
+    depth: usize,
+    status: Status,
+    out: &str,
+    err: &str,
+) -> Result<(), Fail> {
+    let mut text = String::from_str(rt.alloc(), SOURCE_AND_SINK)?;
+    text.push_str("func id(x string) string { return x }\nfunc main() {\n\tsink(")?;
+    for _ in 0..depth {
+        text.push_str("id(")?;
+    }
+    text.push_str("source()")?;
+    for _ in 0..depth {
+        text.push_str(")")?;
+    }
+    text.push_str(")\n}\n")?;
+    folder(rt, "p", &[("p/main.go", text.as_str())], status, out, err)
+}
+
+// Main's brace, the sink's bracket and the source's make 3 of the 100.
+#[test]
+fn at_most_100_brackets_are_open(rt: HostRuntime) -> Result<(), Fail> {
+    nested(
+        &rt,
+        97,
+        Status::Found,
+        "flow default: main.go:6:298 main.source -> main.go:6:2 main.sink arg 0\n1 flows, 0 escapes\n",
+        "",
+    )?;
+    nested(&rt, 98, Status::Unsupported, "", OTHER)
+}
