@@ -39,3 +39,7 @@ distinct-push (x ∷ xs) y d n =
 pub below-push : (n : ℕ) (xs : List ℕ) (y : ℕ) → AreBelow n xs → y < n → AreBelow n (xs ++ y ∷ [])
 below-push n [] y b l = (l, tt)
 below-push n (x ∷ xs) y b l = (b.0, below-push n xs y b.1 l)
+
+-- what a list has after one more number at its end
+pub pushed_cases : (xs : List ℕ) (y i : ℕ) → has (xs ++ y ∷ []) i ≡ true → (has xs i ≡ true) ⊎ (i ≡ y)
+pushed_cases xs y i h = elim (or_cases (has xs i) (nat_eq y i) (sym (has-push xs y i) ∙ h)) [ inl o ↦ inl o | inr e ↦ inr (sym (eqb-true y i e)) ]

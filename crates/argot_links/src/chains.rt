@@ -50,6 +50,13 @@ impl Chains {
         })
     }
 
+    /// How many items the lists have together. No memory.
+    pub fn len(&self) -> u32
+        ensures used { result ≡ self.now.used }
+    {
+        self.cells.len() as u32
+    }
+
     /// Makes room for at least so many more items. After `Memory` nothing is changed.
     pub fn reserve(&mut self, more: u32) -> Result<(), Memory>
         requires { self.old.used + more < 2 ^ 32 }

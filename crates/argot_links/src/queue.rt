@@ -54,6 +54,8 @@ impl Queue {
         // what a client reads by `has`
         ensures there { has self.new.items i ≡ true }
         ensures kept { (j : ℕ) → has self.old.items j ≡ true → has self.new.items j ≡ true }
+        ensures only { (j : ℕ) → has self.new.items j ≡ true → (has self.old.items j ≡ true) ⊎ (j ≡ i) }
+        ensures longer { length self.new.items ≤ length self.old.items + 1 }
         ensures fits { length self.new.items ≤ self.new.size }
     {
         if self.links[i as usize] != 0 {
@@ -82,6 +84,8 @@ impl Queue {
 
         // what a client reads by `has`
         ensures others { IfSome result (λ i. (j : ℕ) → has self.old.items j ≡ true → (j ≡ i) ⊎ (has self.new.items j ≡ true)) }
+        ensures first { IfSome result (λ i. has self.old.items i ≡ true) }
+        ensures rest { (j : ℕ) → has self.new.items j ≡ true → has self.old.items j ≡ true }
         ensures gone { IfSome result (λ i. has self.new.items i ≡ false) }
         ensures empty { IsNone result → (j : ℕ) → has self.old.items j ≡ false }
         ensures shorter { IfSome result (λ _. length self.new.items + 1 ≡ length self.old.items) }

@@ -1,8 +1,8 @@
-use Rattle.std.proofs.Common.{◌≡◌, ℕ, ◌+◌, ◌<◌, true, List, ◌∷◌, [], ◌++◌, length, slice_index, sym, ◌∙◌, subst, arith, rules}
+use Rattle.std.proofs.Common.{◌≡◌, ℕ, ◌+◌, ◌<◌, true, List, ◌∷◌, [], ◌++◌, length, slice_index, sym, ◌∙◌, subst, arith, rules, length-append}
 use Rattle.std.proofs.lemmas.List.{get_or_read}
 use Rattle.argot_links.specs.Members.{has}
 use Rattle.argot_links.specs.Threaded.{thread, IsThreaded}
-use Rattle.argot_links.proofs.Having.{has_pushed, has_kept}
+use Rattle.argot_links.proofs.Having.{has_pushed, has_kept, pushed_cases}
 use Rattle.argot_links.proofs.Threads.{links_after, last_below, room_for, thread_fits, threaded_one, threaded_more, thread_more}
 use Rattle.argot_links.proofs.queue.Queue.put.Goals as goal
 use Rattle.argot_links.proofs.queue.Queue.put.Goals.{Else-index-ne0, Else-self-eq0}
@@ -68,3 +68,13 @@ pub returns-clause-fits : goal.returns-clause-fits
 returns-clause-fits c =
     let d = (goal.at.returns-clause-fits c).Else-self-eq0 in
     thread_fits (after d) c.self.inside.first c.args.i (c.self.inside.count + 1) (threaded d)
+
+pub returns-clause-only : goal.returns-clause-only
+returns-clause-only c = λ j h.
+    let d = (goal.at.returns-clause-only c).Else-self-eq0 in
+    rw (← c.self.view_is) (pushed_cases _ c.args.i j (rw (longer d) at h))
+
+pub returns-clause-longer : goal.returns-clause-longer
+returns-clause-longer c =
+    let d = (goal.at.returns-clause-longer c).Else-self-eq0 in
+    rw (← c.self.view_is, longer d) (omega (arith, length-append (thread c.self.inside.count c.self.inside.links.items c.self.inside.first) (c.args.i ∷ [])))

@@ -1,5 +1,6 @@
 use Rattle.std.proofs.Common.{◌≡◌, ◌<◌, true, length, slice_index, ap, arith}
 use Rattle.std.proofs.lemmas.List.{get_or_read}
+use Rattle.std.proofs.lemmas.Bool.{or_right}
 use Rattle.argot_links.specs.Members.{has}
 use Rattle.argot_links.specs.Threaded.{thread}
 use Rattle.argot_links.proofs.Threads.{first_below, thread_fits, threaded_less, thread_less, first_gone, kept_or_first}
@@ -41,3 +42,9 @@ returns-clause-shorter c =
 
 pub returns-clause-fits : goal.returns-clause-fits
 returns-clause-fits c = rw (← c.self.view_is) (thread_fits c.self.inside.links.items c.self.inside.first c.self.inside.last c.self.inside.count c.self.invariant)
+
+pub returns-clause-rest : goal.returns-clause-rest
+returns-clause-rest c = λ j h.
+    let d = (goal.at.returns-clause-rest c).After-index_mut in
+    let whole = thread_less c.self.inside.links.items c.self.inside.first c.self.inside.last c.self.inside.count (some d) c.self.invariant in
+    rw (← c.self.view_is, whole) (or_right _ _ (rw (link d) at h))

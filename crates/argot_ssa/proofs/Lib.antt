@@ -1,0 +1,17 @@
+pub mod Walks
+pub mod Pushed
+pub mod Nexts
+pub mod Ranges
+pub mod Stepping
+pub mod Heads
+pub mod Blocks
+pub mod Reached
+pub mod Listed
+pub mod Rows
+pub mod Carried
+pub mod Register
+pub mod Collected
+pub mod Sorting
+pub mod Forming
+pub mod Searching
+pub mod Whole

@@ -1,0 +1,5 @@
+pub mod Edges
+pub mod Places
+pub mod Paths
+pub mod Working
+pub mod Form
