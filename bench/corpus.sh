@@ -60,10 +60,9 @@ compared() {
         echo "no tokens, and the reference has some: $1"
         return
     fi
-    theirs=$("$reference" front "$folder" --tree | grep -o '^a.go:[0-9]*:[0-9]*: .*\(syntax\|nest\).*' | head -n 1 || true)
-    ours=$("$show" tree -count "$folder/a.go" 2>&1 > /dev/null || true)
-    theirs=$(echo "$theirs" | cut -d: -f2,3)
-    ours=$(echo "${ours#"$folder/"}" | cut -d: -f2,3)
+    "$reference" front "$folder" --tree > "$folder/wanted" || true
+    theirs=$(grep 'syntax error\|nesting over' "$folder/wanted" | grep -o 'a\.go:[0-9]*:[0-9]*' | head -n 1 || true)
+    ours=$("$show" tree -count "$folder/a.go" 2>&1 > /dev/null | grep -o 'a\.go:[0-9]*:[0-9]*' | head -n 1 || true)
     if [ "$theirs" != "$ours" ]; then echo "trees differ: $1: $ours, reference $theirs"; fi
     if [ -z "$ours" ]; then echo 'yes yes' >> "$folder/parsed"; else echo 'no no' >> "$folder/parsed"; fi
 }
