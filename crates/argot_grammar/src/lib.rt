@@ -7,11 +7,11 @@
 
 mod linking;
 mod nesting;
-mod post;
+mod pending;
 
 pub use linking::link;
 pub use nesting::first_too_deep;
-pub use post::Post;
+
 
 #[cfg(test)]
 mod tests;

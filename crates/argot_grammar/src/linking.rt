@@ -1,11 +1,12 @@
 // From nodes behind their children to nodes before them, with links, from right to left.
 ghost use Rattle.std.specs.Prelude.{◌≡◌, reverse, IfOk, OnOk};
 ghost use Rattle.argot_tree.specs.Forests.{Forest, nodes_from};
-ghost use Rattle.argot_grammar.specs.Posts.{posts};
+ghost use Rattle.argot_spelling.specs.Posts.{posts};
 ghost use Rattle.argot_grammar.specs.Links.{node_of, settle, take_post};
 ghost use Rattle.argot_grammar.specs.Linker.{seen};
 
-use crate::post::{Pending, Post};
+use crate::pending::Pending;
+use argot_spelling::Post;
 use argot_text::Memory;
 use argot_tree::{NodeKind, TreeNode};
 use std::alloc::Global;

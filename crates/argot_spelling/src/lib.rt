@@ -1,0 +1,9 @@
+//! How trees are read from tokens, as a definition, and what it has to do with the trees that spell them.
+//!
+//! `specs/Reader.antt` computes from left to right where a part of the grammar ends, and its nodes, each behind its
+//! children. The parser's code gives what it gives; here stand the laws that relate it to `Spells` of argot_tree.
+#![tactic(auto)]
+
+mod post;
+
+pub use post::Post;
