@@ -60,8 +60,11 @@ must tokens mark old r p = choose old (is_mark tokens r.0 mark) (Some (r.0 + 1, 
 pub must_list : (tokens : List Token) (mark : Mark) (old : List Post) (r : ℕ × List Post) → Extends old r.1 → Grows old (past_list tokens mark r)
 must_list tokens mark old r p = must tokens mark old (behind_comma tokens r.0, r.1) p
 
+all_closed : (old : List Post) (kind : NodeKind) (begun : List (ℕ × ℕ)) (to : ℕ) (out : List Post) → Extends old out → Extends old (closed_all kind begun to out)
+all_closed old kind [] to out p = p
+all_closed old kind (b ∷ rest) to out p = all_closed old kind rest to (closed kind b.0 to b.1 out) (close kind b.0 to b.1 p)
+
 pub close_all : {old out : List Post} (kind : NodeKind) (begun : List (ℕ × ℕ)) (to : ℕ) → Extends old out → Extends old (closed_all kind begun to out)
-close_all kind [] to p = p
-close_all kind (b ∷ rest) to p = close_all kind rest to (close kind b.0 to b.1 p)
+close_all {old} {out} kind begun to p = all_closed old kind begun to out p
 
 pub ruleset growing = (bind, try, choose, close, close_all, found, nothing, must, must_list, by, same)

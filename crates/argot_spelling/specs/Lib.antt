@@ -6,3 +6,4 @@ pub mod ExpressionReader
 pub mod StatementReader
 pub mod DeclarationReader
 pub mod FileReader
+pub mod Reader

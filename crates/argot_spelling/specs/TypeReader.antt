@@ -29,6 +29,10 @@ module _ (tokens : List Token) where
   abbrev pub embedded_by : ℕ → List Post → Answer
   embedded_by at out = if is_at tokens at kinds.Name then named_type_by at out else None
 
+  abbrev pub tag_by : ℕ → List Post → Answer
+  tag_by at out =
+      if is_text (kind_at tokens at) then Some (at + 1, put nodes.Tag at (at + 1) out) else Some (at, out)
+
   module _ (rec : Reader) where
     abbrev pub type_parens_by : ℕ → List Post → Answer
     type_parens_by at out = (rec (The AnyType) (at + 1) out >>= past tokens marks.CloseParen) >>= closing nodes.TypeParens at out
@@ -145,10 +149,6 @@ module _ (tokens : List Token) where
         then rec (The Names) (at + 2) (put nodes.DeclName at (at + 1) out)
         else Some (at + 1, put nodes.DeclName at (at + 1) out))
         else None
-
-    abbrev pub tag_by : ℕ → List Post → Answer
-    tag_by at out =
-        if is_text (kind_at tokens at) then Some (at + 1, put nodes.Tag at (at + 1) out) else Some (at, out)
 
     abbrev pub named_field_by : ℕ → List Post → Answer
     named_field_by at out =
