@@ -1,5 +1,5 @@
 -- What is read is put behind what was there: the combinators.
-use Rattle.std.proofs.Common.{◌≡◌, ℕ, zero, suc, ◌+◌, ◌-◌, ◌≤◌, List, [], ◌∷◌, ◌++◌, length, take, Bool, true, false, ◌&&◌, cond, Option, Some, None, refl, sym, ap, ◌∙◌, arith, append_assoc, length-append}
+use Rattle.std.proofs.Common.{◌≡◌, ℕ, zero, suc, ◌+◌, ◌-◌, ◌≤◌, List, [], ◌∷◌, ◌++◌, length, take, reverse, subst, Bool, true, false, ◌&&◌, cond, Option, Some, None, refl, sym, ap, ◌∙◌, arith, append_assoc, length-append}
 use Rattle.std.proofs.lemmas.List.{append-nil, take_at, take_all}
 use Rattle.std.proofs.lemmas.Bool.{cond_both}
 use Rattle.argot_tree.specs.declared.mark.Mark.{Mark}
@@ -7,6 +7,9 @@ use Rattle.argot_tree.specs.declared.node_kind.NodeKind.{NodeKind}
 use Rattle.argot_tree.specs.declared.token.Token.{Token}
 use Rattle.argot_tree.specs.Forests.{last_token}
 use Rattle.argot_spelling.specs.declared.post.Post.{Post}
+use Rattle.std.specs.List.{remove}
+use Rattle.std.proofs.lemmas.List.Edits.{remove-append_right}
+use Rattle.argot_spelling.specs.ExpressionReader.{ending_with, with_kind}
 use Rattle.argot_spelling.specs.Reading.{Task, Answer, Reader, ◌>>=◌, try_on, closed, put, closing, closed_all, past, past_list, is_mark, behind_comma}
 
 pub record Extends (old new : List Post) : Type 0 where
@@ -67,4 +70,16 @@ all_closed old kind (b ∷ rest) to out p = all_closed old kind rest to (closed 
 pub close_all : {old out : List Post} (kind : NodeKind) (begun : List (ℕ × ℕ)) (to : ℕ) → Extends old out → Extends old (closed_all kind begun to out)
 close_all {old} {out} kind begun to p = all_closed old kind begun to out p
 
-pub ruleset growing = (bind, try, choose, close, close_all, found, nothing, must, must_list, by, same)
+-- the nodes after a list's last are left out of it again
+pub behind : (old : List Post) (to : ℕ) (back : Option (List Post)) → Grows old (ending_with to old back)
+behind old to None = tt
+behind old to (Some back) = record { more = reverse back; is = refl }
+
+pub with_it : (old : List Post) (kind : Option NodeKind) (f : NodeKind → Answer) (other : Answer) → ((k : NodeKind) → Grows old (f k)) → Grows old other → Grows old (with_kind kind f other)
+with_it old None f other h p = p
+with_it old (Some k) f other h p = h k
+
+pub removed : (old l : List Post) → Extends old l → Extends old (remove l (length old + 1))
+removed old l p = record { more = remove p.more (length old + 1 - length old); is = ap (λ x. remove x (length old + 1)) p.is ∙ remove-append_right old p.more (length old) (length old + 1) refl (omega arith) }
+
+pub ruleset growing = (bind, try, choose, close, close_all, found, nothing, must, must_list, same, behind, with_it, removed)

@@ -1,5 +1,5 @@
 -- Reading of expressions, of an expression or a type, and of what stands in a composite literal, one step each.
-use Rattle.std.specs.Prelude.{ℕ, ◌+◌, ◌-◌, ◌*◌, List, [], ◌∷◌, reverse, length, Bool, true, false, ◌&&◌, nat_le, Some, None, Option, if◌then◌else◌, slice_get}
+use Rattle.std.specs.Prelude.{ℕ, ◌+◌, ◌-◌, ◌*◌, List, [], ◌∷◌, ◌++◌, drop, reverse, length, Bool, true, false, ◌&&◌, nat_le, Some, None, Option, if◌then◌else◌, slice_get}
 use Rattle.argot_tree.specs.declared.keyword.Keyword.TheVariants as words
 use Rattle.argot_tree.specs.declared.mark.Mark.TheVariants as marks
 use Rattle.argot_tree.specs.declared.node_kind.NodeKind.{NodeKind}
@@ -60,14 +60,14 @@ recast (p ∷ ps) =
     if is_chan p.kind then Some (received p ∷ ps)
     else (if is_send p.kind then maybe_more (received p) (recast ps) else None)
 
-abbrev pub ending : ℕ → Option (List Post) → Answer
-ending to None = None
-ending to (Some back) = Some (to, reverse back)
+abbrev pub ending_with : ℕ → List Post → Option (List Post) → Answer
+ending_with to out None = None
+ending_with to out (Some back) = Some (to, out ++ reverse back)
 
 -- an arrow before an expression, or before a type that begins with `chan`
 abbrev pub arrowed : Bool → ℕ → List Post → ℕ × List Post → Answer
 arrowed types at out r =
-    if types && typed r.1 then ending r.0 (recast (reverse r.1)) else closing nodes.Receive at out r
+    if types && typed r.1 then ending_with r.0 out (recast (reverse (drop (length out) r.1))) else closing nodes.Receive at out r
 
 -- a star before an expression or before a type
 abbrev pub starred : Bool → ℕ → List Post → ℕ × List Post → Answer
