@@ -1,2 +1,3 @@
 pub mod LinkLaws
 pub mod NestingLaws
+pub mod NameLaws

@@ -7,11 +7,12 @@
 
 mod linking;
 mod nesting;
+mod peek;
 mod pending;
+mod writer;
 
 pub use linking::link;
 pub use nesting::first_too_deep;
-
 
 #[cfg(test)]
 mod tests;

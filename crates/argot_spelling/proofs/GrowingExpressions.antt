@@ -4,7 +4,7 @@ use Rattle.argot_tree.specs.declared.token.Token.{Token}
 use Rattle.argot_tree.specs.declared.token.TokenKind.{TokenKind}
 use Rattle.argot_spelling.specs.declared.post.Post.{Post}
 use Rattle.argot_spelling.specs.Reading.{Task, Reader}
-use Rattle.argot_spelling.specs.ExpressionReader.{level_by, either_by, climb_by, unary_by, primary_by, operand_by, suffixes_by, exprs_by, more_exprs_by, eithers_by, elems_by, items_by, item_by, value_by}
+use Rattle.argot_spelling.specs.ExpressionReader.{level_by, either_by, climb_by, unary_by, primary_by, operand_by, suffix_by, suffixes_by, exprs_by, more_exprs_by, eithers_by, elems_by, items_by, item_by, value_by}
 use Rattle.argot_spelling.proofs.Growing.{AlwaysGrows, Grows, Extends, growing, by}
 
 module _ (tokens : List Token) (rec : Reader) (g : AlwaysGrows rec) where
@@ -29,6 +29,9 @@ module _ (tokens : List Token) (rec : Reader) (g : AlwaysGrows rec) where
 
     pub operand_grows : (types : Bool) (bare : Bool) → Grows out (operand_by tokens rec types bare at out)
     operand_grows types bare = search (growing, further) depth 40 fits 20000
+
+    pub suffix_grows : (from : ℕ) (mark : ℕ) → Grows out (suffix_by tokens rec from mark at out)
+    suffix_grows from mark = search (growing, further) depth 40 fits 20000
 
     pub suffixes_grows : (from : ℕ) (mark : ℕ) → Grows out (suffixes_by tokens rec from mark at out)
     suffixes_grows from mark = search (growing, further) depth 40 fits 20000

@@ -86,6 +86,26 @@ abbrev pub with_kind : Option NodeKind → (NodeKind → Answer) → Answer → 
 with_kind None f other = other
 with_kind (Some kind) f other = f kind
 
+abbrev pub name_use_by : ℕ → List Post → Answer
+name_use_by at out = Some (at + 1, put nodes.NameUse at (at + 1) out)
+
+module _ (tokens : List Token) where
+  -- `[...]`
+  abbrev pub is_open_array : ℕ → Bool
+  is_open_array at =
+      is_mark tokens at marks.OpenBracket && (is_mark tokens (at + 1) marks.Ellipsis && is_mark tokens (at + 2) marks.CloseBracket)
+
+  -- a bracket's end
+  abbrev pub bracket_end : NodeKind → ℕ → ℕ → ℕ × List Post → Answer
+  bracket_end kind from mark r = past tokens marks.CloseBracket r >>= closing_since kind from mark
+
+  -- arguments, and what closes them
+  abbrev pub arguments_by : ℕ → ℕ → ℕ × List Post → Answer
+  arguments_by from mark r =
+      if is_mark tokens r.0 marks.Ellipsis
+      then (past_list tokens marks.CloseParen (r.0 + 1, r.1) >>= closing_since nodes.SpreadCall from mark)
+      else (past_list tokens marks.CloseParen r >>= closing_since nodes.Call from mark)
+
 module _ (tokens : List Token) (rec : Reader) where
   abbrev pub level_by : ℕ → Bool → ℕ → List Post → Answer
   level_by k bare at out = rec (UnaryOr false bare) at out >>= λ r. rec (Climb k 9 bare at (length out)) r.0 r.1
@@ -110,37 +130,40 @@ module _ (tokens : List Token) (rec : Reader) where
   primary_by types bare at out =
       rec (OperandOr types bare) at out >>= λ r. (if types && typed r.1 then Some r else rec (Suffixes at (length out)) r.0 r.1)
 
-  -- behind a type: what it converts, or nothing
-  abbrev pub converted_by : Bool → ℕ → List Post → ℕ × List Post → Answer
-  converted_by types at out r =
+  -- behind a type that begins at a token and whose nodes begin at a mark: what it converts, or nothing
+  abbrev pub converted_by : Bool → ℕ → ℕ → ℕ × List Post → Answer
+  converted_by types from mark r =
       if is_mark tokens r.0 marks.OpenParen
-      then try_on (rec (The (Level 1 true)) (r.0 + 1) r.1 >>= past_list tokens marks.CloseParen) (closing nodes.Conversion at out) (stay_by types r)
+      then try_on (rec (The (Level 1 true)) (r.0 + 1) r.1 >>= past_list tokens marks.CloseParen) (closing_since nodes.Conversion from mark) (stay_by types r)
       else stay_by types r
 
   -- or elements
-  abbrev pub behind_type_by : Bool → ℕ → List Post → ℕ × List Post → Answer
-  behind_type_by types at out r =
-      if begins_composite (kind_at tokens at) && is_mark tokens r.0 marks.OpenBrace
-      then try_on (rec (The Elems) r.0 r.1) (closing nodes.Composite at out) (stay_by types r)
-      else converted_by types at out r
+  abbrev pub behind_type_by : Bool → ℕ → ℕ → ℕ × List Post → Answer
+  behind_type_by types from mark r =
+      if begins_composite (kind_at tokens from) && is_mark tokens r.0 marks.OpenBrace
+      then try_on (rec (The Elems) r.0 r.1) (closing_since nodes.Composite from mark) (stay_by types r)
+      else converted_by types from mark r
 
   -- behind a signature: a body, or it is a type
-  abbrev pub behind_signature_by : Bool → ℕ → List Post → ℕ × List Post → Answer
-  behind_signature_by types at out r =
+  abbrev pub behind_signature_by : Bool → ℕ → ℕ → ℕ × List Post → Answer
+  behind_signature_by types from mark r =
       if is_mark tokens r.0 marks.OpenBrace
-      then try_on (rec (The Block) r.0 r.1) (closing nodes.FuncLiteral at out) (stay_by types (r.0, closed nodes.FuncType at r.0 (length out) r.1))
-      else converted_by types at out (r.0, closed nodes.FuncType at r.0 (length out) r.1)
+      then try_on (rec (The Block) r.0 r.1) (closing_since nodes.FuncLiteral from mark) (stay_by types (r.0, closed nodes.FuncType from r.0 mark r.1))
+      else converted_by types from mark (r.0, closed nodes.FuncType from r.0 mark r.1)
 
   abbrev pub func_by : Bool → ℕ → List Post → Answer
-  func_by types at out = rec (The Signature) (at + 1) out >>= behind_signature_by types at out
+  func_by types at out = rec (The Signature) (at + 1) out >>= behind_signature_by types at (length out)
+
+  abbrev pub type_operand_by : Bool → ℕ → List Post → Answer
+  type_operand_by types at out = rec (The OnlyType) at out >>= behind_type_by types at (length out)
+
+  abbrev pub parens_by : ℕ → List Post → Answer
+  parens_by at out = (rec (The Either) (at + 1) out >>= past tokens marks.CloseParen) >>= closing nodes.Parens at out
 
   -- a literal of an array whose length its elements give
   abbrev pub open_array_by : ℕ → List Post → Answer
   open_array_by at out =
       ((rec (The AnyType) (at + 3) out >>= closing nodes.OpenArrayType at out) >>= λ r. rec (The Elems) r.0 r.1) >>= closing nodes.Composite at out
-
-  abbrev pub name_use_by : ℕ → List Post → Answer
-  name_use_by at out = Some (at + 1, put nodes.NameUse at (at + 1) out)
 
   -- elements behind a bare type name, where braces may stand and where they read
   abbrev pub braced_by : ℕ → List Post → ℕ × List Post → Answer
@@ -157,10 +180,10 @@ module _ (tokens : List Token) (rec : Reader) where
   operand_by types bare at out =
       if is_at tokens at kinds.Name then name_by bare at out
       else (if is_literal (kind_at tokens at) then Some (at + 1, put nodes.Literal at (at + 1) out)
-      else (if is_mark tokens at marks.OpenParen then ((rec (The Either) (at + 1) out >>= past tokens marks.CloseParen) >>= closing nodes.Parens at out)
+      else (if is_mark tokens at marks.OpenParen then parens_by at out
       else (if is_word tokens at words.Func then func_by types at out
-      else (if is_mark tokens at marks.OpenBracket && (is_mark tokens (at + 1) marks.Ellipsis && is_mark tokens (at + 2) marks.CloseBracket) then open_array_by at out
-      else (if begins_conversion (kind_at tokens at) then (rec (The OnlyType) at out >>= behind_type_by types at out)
+      else (if is_open_array tokens at then open_array_by at out
+      else (if begins_conversion (kind_at tokens at) then type_operand_by types at out
       else None)))))
 
   -- what goes on behind an operand: a point
@@ -172,17 +195,13 @@ module _ (tokens : List Token) (rec : Reader) where
       then ((rec (The AnyType) (at + 2) out >>= past tokens marks.CloseParen) >>= closing_since nodes.TypeAssertion from mark)
       else None)
 
-  -- a bracket's end
-  abbrev pub bracket_end : NodeKind → ℕ → ℕ → ℕ × List Post → Answer
-  bracket_end kind from mark r = past tokens marks.CloseBracket r >>= closing_since kind from mark
-
   -- a colon behind the second of them, and a third
   abbrev pub third_by : NodeKind → ℕ → ℕ → ℕ × List Post → Answer
-  third_by kind from mark r = rec (The (Level 1 true)) (r.0 + 1) r.1 >>= bracket_end kind from mark
+  third_by kind from mark r = rec (The (Level 1 true)) (r.0 + 1) r.1 >>= bracket_end tokens kind from mark
 
   abbrev pub second_by : NodeKind → NodeKind → ℕ → ℕ → ℕ × List Post → Answer
   second_by kind with_max from mark r =
-      if is_mark tokens r.0 marks.Colon then third_by with_max from mark r else bracket_end kind from mark r
+      if is_mark tokens r.0 marks.Colon then third_by with_max from mark r else bracket_end tokens kind from mark r
 
   abbrev pub from_start_by : ℕ → ℕ → ℕ → List Post → Answer
   from_start_by from mark at out =
@@ -195,7 +214,7 @@ module _ (tokens : List Token) (rec : Reader) where
       if is_mark tokens r.0 marks.Colon
       then (if is_mark tokens (r.0 + 1) marks.CloseBracket then Some (r.0 + 2, closed nodes.SliceFrom from (r.0 + 2) mark r.1)
       else rec (The (Level 1 true)) (r.0 + 1) r.1 >>= second_by nodes.SliceBetween nodes.SliceBetweenMax from mark)
-      else bracket_end nodes.Index from mark r
+      else bracket_end tokens nodes.Index from mark r
 
   -- an index or a slice
   abbrev pub bracket_by : ℕ → ℕ → ℕ → List Post → Answer
@@ -203,17 +222,10 @@ module _ (tokens : List Token) (rec : Reader) where
       if is_mark tokens (at + 1) marks.Colon then from_start_by from mark at out
       else rec (The (Level 1 true)) (at + 1) out >>= behind_first_by from mark
 
-  -- arguments, and what closes them
-  abbrev pub arguments_by : ℕ → ℕ → ℕ × List Post → Answer
-  arguments_by from mark r =
-      if is_mark tokens r.0 marks.Ellipsis
-      then (past_list tokens marks.CloseParen (r.0 + 1, r.1) >>= closing_since nodes.SpreadCall from mark)
-      else (past_list tokens marks.CloseParen r >>= closing_since nodes.Call from mark)
-
   abbrev pub call_by : ℕ → ℕ → ℕ → List Post → Answer
   call_by from mark at out =
       if is_mark tokens (at + 1) marks.CloseParen then Some (at + 2, closed nodes.Call from (at + 2) mark out)
-      else rec (The Eithers) (at + 1) out >>= arguments_by from mark
+      else rec (The Eithers) (at + 1) out >>= arguments_by tokens from mark
 
   abbrev pub suffix_by : ℕ → ℕ → ℕ → List Post → Answer
   suffix_by from mark at out =

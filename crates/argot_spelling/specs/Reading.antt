@@ -1,5 +1,5 @@
 -- What reading from left to right is made of: where a part ends, and the nodes with those of the part behind them.
-use Rattle.std.specs.Prelude.{◌≡◌, ℕ, ◌+◌, ◌-◌, ◌*◌, ◌==◌, List, [], ◌∷◌, ◌++◌, length, drop, Bool, true, false, ◌&&◌, nat_le, Option, Some, None, if◌then◌else◌, slice_get}
+use Rattle.std.specs.Prelude.{◌≡◌, ℕ, ◌+◌, ◌-◌, ◌*◌, ◌==◌, List, [], ◌∷◌, ◌++◌, length, take, drop, Bool, true, false, ◌&&◌, nat_le, Option, Some, None, if◌then◌else◌, slice_get}
 use Rattle.argot_tree.specs.declared.keyword.Keyword.{Keyword}
 use Rattle.argot_tree.specs.declared.keyword.Keyword.TheVariants as words
 use Rattle.argot_tree.specs.declared.mark.Mark.{Mark}
@@ -204,3 +204,8 @@ names_then tokens test at = is_at tokens at kinds.Name && test (kind_at tokens (
 abbrev pub Gives : List Post → Option ℕ → List Post → Answer → Type 0
 Gives old None new answer = (answer ≡ None) × (new ≡ old)
 Gives old (Some to) new answer = answer ≡ Some (to, new)
+
+-- what a call gives that is made behind a mark: where nothing is read, what was written since the mark is given up
+abbrev pub Settles : ℕ → List Post → Option ℕ → List Post → Answer → Type 0
+Settles mark old None new answer = (answer ≡ None) × (new ≡ take mark old)
+Settles mark old (Some to) new answer = answer ≡ Some (to, new)

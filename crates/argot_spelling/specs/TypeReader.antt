@@ -80,6 +80,9 @@ module _ (tokens : List Token) where
         then ((rec (The Elements) (at + 2) out >>= past tokens marks.CloseBrace) >>= closing nodes.InterfaceType at out)
         else None
 
+    abbrev pub func_type_by : ℕ → List Post → Answer
+    func_type_by at out = rec (The Signature) (at + 1) out >>= closing nodes.FuncType at out
+
     -- a type that is no expression and no pointer
     abbrev pub formed_by : ℕ → List Post → Answer
     formed_by at out =
@@ -87,7 +90,7 @@ module _ (tokens : List Token) where
         else (if is_word tokens at words.Map then map_by at out
         else (if is_word tokens at words.Chan then chan_by at out
         else (if is_mark tokens at marks.Arrow then receive_by at out
-        else (if is_word tokens at words.Func then (rec (The Signature) (at + 1) out >>= closing nodes.FuncType at out)
+        else (if is_word tokens at words.Func then func_type_by at out
         else (if is_word tokens at words.Struct then struct_by at out
         else (if is_word tokens at words.Interface then interface_by at out
         else None))))))

@@ -1,0 +1,82 @@
+// The nodes that are written behind their children.
+ghost use Rattle.std.specs.Prelude.{◌≡◌, ◌≤◌, ◌+◌, length, vec_len, take, IfOk, OnOk};
+ghost use Rattle.argot_tree.specs.Forests.{last_token};
+ghost use Rattle.argot_spelling.specs.Reading.{closed, put};
+
+use argot_spelling::Post;
+use argot_text::Memory;
+use argot_tree::NodeKind;
+
+/// The nodes so far, and the furthest token at which one that is needed was missing.
+#[derive(Drop)]
+pub struct Writer {
+    pub posts: Vec<Post>,
+    pub furthest: usize,
+}
+
+/// More than a number counts has no room.
+pub fn narrow(n: usize) -> Result<u32, Memory>
+    ensures { IfOk result (λ x. x ≡ n) }
+{
+    match u32::try_from(n) {
+        Ok(x) => Ok(x),
+        Err(_) => Err(Memory),
+    }
+}
+
+fn last_token(from: usize, to: usize) -> usize
+    ensures { result ≡ last_token from to }
+{
+    if from == to {
+        from
+    } else {
+        to.saturating_sub(1)
+    }
+}
+
+/// The nodes since a mark become the children of a new one.
+pub fn close(
+    out: &mut Writer,
+    kind: NodeKind,
+    from: usize,
+    to: usize,
+    mark: usize,
+) -> Result<(), Memory>
+    requires { mark ≤ vec_len out.old.posts }
+    ensures { OnOk result (out.new.posts.items ≡ closed kind from to mark out.old.posts.items) }
+{
+    let size = narrow(out.posts.len() - mark + 1)?;
+    let token = narrow(from)?;
+    let last = narrow(last_token(from, to))?;
+    out.posts.push(Post {
+        kind,
+        token,
+        last,
+        size,
+    })?;
+    Ok(())
+}
+
+/// A node without children.
+pub fn put(out: &mut Writer, kind: NodeKind, from: usize, to: usize) -> Result<(), Memory>
+    ensures { OnOk result (out.new.posts.items ≡ put kind from to out.old.posts.items) }
+{
+    let mark = out.posts.len();
+    close(out, kind, from, to, mark)
+}
+
+/// Gives up what was written since a mark.
+pub fn undo(out: &mut Writer, mark: usize)
+    ensures { out.new.posts.items ≡ take mark out.old.posts.items }
+{
+    out.posts.truncate(mark);
+}
+
+/// A token that is needed there is missing.
+pub fn missing(out: &mut Writer, at: usize)
+    ensures { out.new.posts ≡ out.old.posts }
+{
+    if out.furthest < at {
+        out.furthest = at;
+    }
+}
