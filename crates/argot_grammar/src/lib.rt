@@ -5,10 +5,19 @@
 //! first token that is nested deeper than the parser goes. Both are one pass over a list.
 #![tactic(auto)]
 
+mod arrows;
+mod elements;
+mod expressions;
+mod fields;
 mod linking;
 mod nesting;
+mod operands;
 mod peek;
 mod pending;
+mod signatures;
+mod statements;
+mod suffixes;
+mod types;
 mod writer;
 
 pub use linking::link;

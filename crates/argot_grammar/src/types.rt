@@ -4,7 +4,7 @@
 ghost use Rattle.std.specs.Prelude.{◌≡◌, ◌<◌, ◌≤◌, ◌+◌, ◌-◌, length, IfOk, OnOk, Option, Some, None, vec_len, take, Bool, true, false};
 ghost use Rattle.argot_tree.specs.Grammar.{AnyType, OnlyType};
 ghost use Rattle.argot_spelling.specs.Reading.{The, Gives, closed, put};
-ghost use Rattle.argot_spelling.specs.TypeReader.{named_type_by, type_parens_by, array_by, bracketed_by, map_by, chan_by, receive_by, struct_by, interface_by};
+ghost use Rattle.argot_spelling.specs.TypeReader.{named_type_by, type_parens_by, array_by, bracketed_by, map_by, chan_by, receive_by, func_type_by, struct_by, interface_by};
 ghost use Rattle.argot_spelling.specs.Reader.{read};
 
 use crate::expressions::level;
@@ -248,7 +248,7 @@ fn func_type(
     at: usize,
 ) -> Result<Option<usize>, Memory>
     requires { at < length tokens.now }
-    ensures { IfOk result (λ r. Gives out.old.posts.items r out.new.posts.items (func_type_by (read tokens.now fuel) at out.old.posts.items)) }
+    ensures { IfOk result (λ r. Gives out.old.posts.items r out.new.posts.items (func_type_by tokens.now (read tokens.now fuel) at out.old.posts.items)) }
 {
     let mark = out.posts.len();
     let Some(to) = signature(tokens, out, fuel, at + 1)? else {

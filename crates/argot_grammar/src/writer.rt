@@ -1,11 +1,12 @@
 // The nodes that are written behind their children.
-ghost use Rattle.std.specs.Prelude.{◌≡◌, ◌≤◌, ◌+◌, length, vec_len, take, IfOk, OnOk};
+ghost use Rattle.std.specs.Prelude.{◌≡◌, ◌≤◌, ◌+◌, length, vec_len, take, IfOk, OnOk, IfSome, IfNone, Option, Some, None, Bool, true, false, IsTrue};
 ghost use Rattle.argot_tree.specs.Forests.{last_token};
-ghost use Rattle.argot_spelling.specs.Reading.{closed, put};
+ghost use Rattle.argot_spelling.specs.Reading.{closed, put, is_mark, behind_comma};
 
+use crate::peek::{behind_comma, is_mark};
 use argot_spelling::Post;
 use argot_text::Memory;
-use argot_tree::NodeKind;
+use argot_tree::{Mark, NodeKind, Token};
 
 /// The nodes so far, and the furthest token at which one that is needed was missing.
 #[derive(Drop)]
@@ -79,4 +80,49 @@ pub fn missing(out: &mut Writer, at: usize)
     if out.furthest < at {
         out.furthest = at;
     }
+}
+
+/// The token behind the mark that must stand there; where it doesn't, what was written since a mark is given up.
+pub fn expect(
+    tokens: &[Token],
+    out: &mut Writer,
+    at: usize,
+    wanted: Mark,
+    mark: usize,
+) -> Option<usize>
+    ensures some { IfSome result (λ to. (is_mark tokens.now at wanted ≡ true) × (to ≡ at + 1) × (out.new.posts ≡ out.old.posts)) }
+    ensures none { IfNone result ((is_mark tokens.now at wanted ≡ false) × (out.new.posts.items ≡ take mark out.old.posts.items)) }
+{
+    if is_mark(tokens, at, wanted) {
+        return Some(at + 1);
+    }
+    missing(out, at);
+    undo(out, mark);
+    None
+}
+
+/// The same with a comma before it or without.
+pub fn expect_list(
+    tokens: &[Token],
+    out: &mut Writer,
+    at: usize,
+    wanted: Mark,
+    mark: usize,
+) -> Option<usize>
+    ensures some { IfSome result (λ to. (is_mark tokens.now (behind_comma tokens.now at) wanted ≡ true) × (to ≡ behind_comma tokens.now at + 1) × (out.new.posts ≡ out.old.posts)) }
+    ensures none { IfNone result ((is_mark tokens.now (behind_comma tokens.now at) wanted ≡ false) × (out.new.posts.items ≡ take mark out.old.posts.items)) }
+{
+    expect(tokens, out, behind_comma(tokens, at), wanted, mark)
+}
+
+/// What was written stays where it may, and is given up since a mark where it may not.
+pub fn keep(out: &mut Writer, may: bool, to: usize, mark: usize) -> Option<usize>
+    ensures some { IfSome result (λ r. (may ≡ true) × (r ≡ to) × (out.new.posts ≡ out.old.posts)) }
+    ensures none { IfNone result ((may ≡ false) × (out.new.posts.items ≡ take mark out.old.posts.items)) }
+{
+    if may {
+        return Some(to);
+    }
+    undo(out, mark);
+    None
 }

@@ -1,5 +1,5 @@
 -- Reading of expressions, of an expression or a type, and of what stands in a composite literal, one step each.
-use Rattle.std.specs.Prelude.{ℕ, ◌+◌, ◌-◌, ◌*◌, List, [], ◌∷◌, ◌++◌, drop, reverse, length, Bool, true, false, ◌&&◌, nat_le, Some, None, Option, if◌then◌else◌, slice_get}
+use Rattle.std.specs.Prelude.{◌≡◌, ℕ, ◌+◌, ◌-◌, ◌*◌, List, [], ◌∷◌, ◌++◌, take, drop, reverse, length, Bool, true, false, ◌&&◌, nat_le, Some, None, Option, if◌then◌else◌, slice_get}
 use Rattle.argot_tree.specs.declared.keyword.Keyword.TheVariants as words
 use Rattle.argot_tree.specs.declared.mark.Mark.TheVariants as marks
 use Rattle.argot_tree.specs.declared.node_kind.NodeKind.{NodeKind}
@@ -59,6 +59,11 @@ recast [] = None
 recast (p ∷ ps) =
     if is_chan p.kind then Some (received p ∷ ps)
     else (if is_send p.kind then maybe_more (received p) (recast ps) else None)
+
+-- what was done with the nodes since a mark
+abbrev pub Recasts : ℕ → List Post → Bool → List Post → Type 0
+Recasts mark old true new = (take mark new ≡ take mark old) × (recast (reverse (drop mark old)) ≡ Some (reverse (drop mark new)))
+Recasts mark old false new = (new ≡ old) × (recast (reverse (drop mark old)) ≡ None)
 
 abbrev pub ending_with : ℕ → List Post → Option (List Post) → Answer
 ending_with to out None = None
