@@ -6,3 +6,8 @@ pub mod GrowingStatements
 pub mod GrowingDeclarations
 pub mod GrowingFiles
 pub mod Grows
+pub mod TokenTests
+pub mod PostLaws
+pub mod Holding
+pub mod SoundReads
+pub mod SoundStatements

@@ -24,14 +24,6 @@ decl_kind Variable = nodes.VarDecl
 decl_kind TypeSort = nodes.TypeDecl
 
 module _ (tokens : List Token) where
-  -- names with commas between; a comma that no name follows is not theirs
-  abbrev pub names_by : Reader → ℕ → List Post → Answer
-  names_by rec at out =
-      if is_at tokens at kinds.Name
-      then (if is_mark tokens (at + 1) marks.Comma && is_at tokens (at + 2) kinds.Name then rec (The Names) (at + 2) (put nodes.DeclName at (at + 1) out)
-      else Some (at + 1, put nodes.DeclName at (at + 1) out))
-      else None
-
   -- `=` and values
   abbrev pub values_by : Reader → ℕ × List Post → Answer
   values_by rec r =
