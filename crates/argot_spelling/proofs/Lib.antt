@@ -11,3 +11,4 @@ pub mod PostLaws
 pub mod Holding
 pub mod SoundReads
 pub mod SoundStatements
+pub mod SoundHeads

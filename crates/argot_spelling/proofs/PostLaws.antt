@@ -34,3 +34,13 @@ put_posts kind from to out = closed_posts kind from to (length out) out out leaf
 pub joined : (base out new : List Post) (x y : Forest) → out ≡ base ++ posts x → new ≡ out ++ posts y → new ≡ base ++ posts (beside x y)
 joined base out new x y e f =
     f ∙ ap (λ o. o ++ posts y) e ∙ append_assoc base (posts x) (posts y) ∙ ap (λ ps. base ++ ps) (sym (posts-beside x y))
+
+-- trees side by side group either way
+pub beside_assoc : (x y z : Forest) → beside (beside x y) z ≡ beside x (beside y z)
+beside_assoc leaf y z = refl
+beside_assoc (tree kind token last kids rest) y z = ap (tree kind token last kids) (beside_assoc rest y z)
+
+-- the nodes of three lists of trees, the first two of which were put together before
+pub joined_last : (base out new : List Post) (x y z : Forest) → out ≡ base ++ posts (beside x y) → new ≡ out ++ posts z → new ≡ base ++ posts (beside x (beside y z))
+joined_last base out new x y z e f =
+    joined base out new (beside x y) z e f ∙ ap (λ w. base ++ posts w) (beside_assoc x y z)

@@ -248,29 +248,32 @@ module _ (tokens : List Token) where
       else (rec (The (Level 1 false)) at out >>= tagged_by rec from mark at (length out)))
 
   -- behind the first statement of the head
-  abbrev pub init_by : Reader → ℕ → ℕ → ℕ × List Post → Answer
-  init_by rec from mark r =
-      if is_semicolon (kind_at tokens r.0) then tag_by rec from mark (r.0 + 1) (closed nodes.Init (from + 1) r.0 mark r.1)
-      else None
+  abbrev pub init_by : Reader → ℕ → ℕ → ℕ → ℕ × List Post → Answer
+  init_by rec from mark start r =
+      if is_semicolon (kind_at tokens r.0) then tag_by rec from mark (r.0 + 1) (closed nodes.Init start r.0 mark r.1) else None
 
   -- a head that begins with a name and `:=`, whose first expression is read: a guard has the name alone, and a
   -- definition has it in a node of names
-  abbrev pub defined_by : Reader → ℕ → ℕ → ℕ × List Post → Answer
-  defined_by rec from mark r =
-      if guards r.0 then named_guard_by rec from mark (from + 1) mark (r.0, remove r.1 (mark + 1))
-      else (((more_by rec false r >>= ending nodes.Exprs (from + 3) (mark + 2)) >>= ending nodes.Define (from + 1) mark) >>= init_by rec from mark)
+  abbrev pub defined_by : Reader → ℕ → ℕ → ℕ → ℕ × List Post → Answer
+  defined_by rec from mark start r =
+      if guards r.0 then named_guard_by rec from mark start mark (r.0, remove r.1 (mark + 1))
+      else (((more_by rec false r >>= ending nodes.Exprs (start + 2) (mark + 2)) >>= ending nodes.Define start mark) >>= init_by rec from mark start)
 
-  abbrev pub opened_switch_by : Reader → ℕ → ℕ → ℕ × List Post → Answer
-  opened_switch_by rec from mark r =
-      if is_semicolon (kind_at tokens r.0) then init_by rec from mark r else tagged_by rec from mark (from + 1) mark r
+  abbrev pub opened_switch_by : Reader → ℕ → ℕ → ℕ → ℕ × List Post → Answer
+  opened_switch_by rec from mark start r =
+      if is_semicolon (kind_at tokens r.0) then init_by rec from mark start r else tagged_by rec from mark start mark r
+
+  -- the head from its first token on
+  abbrev pub head_by : Reader → ℕ → ℕ → List Post → Answer
+  head_by rec from start out =
+      if is_semicolon (kind_at tokens start) then tag_by rec from (length out) (start + 1) (put_empty nodes.Init start out)
+      else (if is_mark tokens start marks.OpenBrace then switched_by rec nodes.Switch from (length out) (start, out)
+      else (if is_at tokens start kinds.Name && is_mark tokens (start + 1) marks.Define
+      then rec (The (Level 1 false)) (start + 2) (closed nodes.Names start (start + 1) (length out) (put nodes.DeclName start (start + 1) out)) >>= defined_by rec from (length out) start
+      else (opening_by rec start out >>= opened_switch_by rec from (length out) start)))
 
   abbrev pub switch_by : Reader → ℕ → List Post → Answer
-  switch_by rec at out =
-      if is_semicolon (kind_at tokens (at + 1)) then tag_by rec at (length out) (at + 2) (put_empty nodes.Init (at + 1) out)
-      else (if is_mark tokens (at + 1) marks.OpenBrace then switched_by rec nodes.Switch at (length out) (at + 1, out)
-      else (if is_at tokens (at + 1) kinds.Name && is_mark tokens (at + 2) marks.Define
-      then rec (The (Level 1 false)) (at + 3) (closed nodes.Names (at + 1) (at + 2) (length out) (put nodes.DeclName (at + 1) (at + 2) out)) >>= defined_by rec at (length out)
-      else (opening_by rec (at + 1) out >>= opened_switch_by rec at (length out))))
+  switch_by rec at out = head_by rec at (at + 1) out
 
   -- a clause from its colon on
   abbrev pub clause_by : Reader → NodeKind → ℕ → ℕ → ℕ × List Post → Answer
@@ -337,20 +340,20 @@ module _ (tokens : List Token) where
   parts_by rec from mark r =
       ((rec (The MaybeCondition) r.0 r.1 >>= past_semicolon) >>= λ q. rec (The MaybePost) q.0 q.1) >>= loop_by rec nodes.For from mark
 
-  -- at `range`
+  -- behind `range`
   abbrev pub range_by : Reader → NodeKind → ℕ → ℕ → ℕ × List Post → Answer
-  range_by rec kind from mark r = rec (The (Level 1 false)) (r.0 + 1) r.1 >>= loop_by rec kind from mark
+  range_by rec kind from mark r = rec (The (Level 1 false)) r.0 r.1 >>= loop_by rec kind from mark
 
   abbrev pub looped_by : Reader → ℕ → ℕ → ℕ × List Post → Answer
   looped_by rec from mark r =
       if is_semicolon (kind_at tokens r.0) then parts_by rec from mark (r.0 + 1, closed nodes.Init (from + 1) r.0 mark r.1)
       else (if ranges r.0
-      then range_by rec (if is_mark tokens r.0 marks.Assign then nodes.AssignRange else nodes.DefineRange) from mark (r.0 + 1, closed nodes.Exprs (from + 1) r.0 mark r.1)
+      then range_by rec (if is_mark tokens r.0 marks.Assign then nodes.AssignRange else nodes.DefineRange) from mark (r.0 + 2, closed nodes.Exprs (from + 1) r.0 mark r.1)
       else loop_by rec nodes.While from mark r)
 
   abbrev pub for_by : Reader → ℕ → List Post → Answer
   for_by rec at out =
-      if is_range (kind_at tokens (at + 1)) then range_by rec nodes.Range at (length out) (at + 1, out)
+      if is_range (kind_at tokens (at + 1)) then range_by rec nodes.Range at (length out) (at + 2, out)
       else (if is_semicolon (kind_at tokens (at + 1)) then parts_by rec at (length out) (at + 2, put_empty nodes.Init (at + 1) out)
       else (if is_mark tokens (at + 1) marks.OpenBrace then loop_by rec nodes.While at (length out) (at + 1, out)
       else (opening_by rec (at + 1) out >>= looped_by rec at (length out))))
