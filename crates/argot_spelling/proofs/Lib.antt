@@ -12,3 +12,4 @@ pub mod Holding
 pub mod SoundReads
 pub mod SoundStatements
 pub mod SoundHeads
+pub mod SoundSwitches
