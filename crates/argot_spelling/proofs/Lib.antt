@@ -13,3 +13,5 @@ pub mod SoundReads
 pub mod SoundStatements
 pub mod SoundHeads
 pub mod SoundSwitches
+pub mod SoundLoops
+pub mod SoundClauses

@@ -55,7 +55,7 @@ labeled_is {tokens} {x} {at} {to} n c h =
     (λ q. subst (λ y. Spells tokens Stmt (one nodes.Labeled at to (beside named y)) at to) (sym q.0) (subst (λ t. Spells tokens Stmt (one nodes.Labeled at t (beside named nothing_there)) at t) (sym q.1) (labeled_empty n c)))
     h
 
-label_sound : {tokens : List Token} {rec : Reader} → IsSound tokens rec → (begun : List (ℕ × ℕ)) (at : ℕ) (out : List Post) → labels tokens at ≡ true → Holds (Chained tokens Stmt nodes.Labeled begun at out) (label_by tokens rec begun at out)
+pub label_sound : {tokens : List Token} {rec : Reader} → IsSound tokens rec → (begun : List (ℕ × ℕ)) (at : ℕ) (out : List Post) → labels tokens at ≡ true → Holds (Chained tokens Stmt nodes.Labeled begun at out) (label_by tokens rec begun at out)
 label_sound {tokens} {rec} g begun at out e =
     let p = and_parts (is_at tokens at kinds.Name) (is_mark tokens (at + 1) marks.Colon) e in
     let named = one nodes.DeclName at (at + 1) leaf in
@@ -74,12 +74,12 @@ pub maybe_label_sound : {tokens : List Token} (at : ℕ) (out : List Post) → H
 maybe_label_sound {tokens} at out =
     choose (is_at tokens at kinds.Name) (λ e. given (bare nodes.LabelUse at out (a_label (has_at at kinds.Name e)))) (λ _. given (nothing at out no_label))
 
-return_sound : {tokens : List Token} {rec : Reader} → IsSound tokens rec → (at : ℕ) (out : List Post) → HasWord tokens at words.Return → Holds (Has tokens Stmt at out) (return_by tokens rec at out)
+pub return_sound : {tokens : List Token} {rec : Reader} → IsSound tokens rec → (at : ℕ) (out : List Post) → HasWord tokens at words.Return → Holds (Has tokens Stmt at out) (return_by tokens rec at out)
 return_sound {tokens} {rec} g at out w =
     choose (ends_stmt (kind_at tokens (at + 1))) (λ _. given (bare nodes.Return at out (return_none w)))
     (λ _. then g (Exprs true) (at + 1) out (λ r h. given (node nodes.Return at out (return_values w h.1) h.2)))
 
-goto_sound : {tokens : List Token} (at : ℕ) (out : List Post) → HasWord tokens at words.Goto → Holds (Has tokens Stmt at out) (goto_by tokens at out)
+pub goto_sound : {tokens : List Token} (at : ℕ) (out : List Post) → HasWord tokens at words.Goto → Holds (Has tokens Stmt at out) (goto_by tokens at out)
 goto_sound {tokens} at out w =
     choose (is_at tokens (at + 1) kinds.Name) (λ e. given (node nodes.Goto at out (goto_stmt w (has_at (at + 1) kinds.Name e)) (put_posts nodes.LabelUse (at + 1) (at + 2) out)))
     (λ _. none)
