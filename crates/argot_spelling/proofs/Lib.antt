@@ -15,3 +15,4 @@ pub mod SoundHeads
 pub mod SoundSwitches
 pub mod SoundLoops
 pub mod SoundClauses
+pub mod SoundDeclarations

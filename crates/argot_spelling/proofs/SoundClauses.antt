@@ -1,5 +1,5 @@
 -- The clauses of a `switch` and of a `select` that are read are spelled, and so is a statement.
-use Rattle.std.proofs.Common.{◌≡◌, ℕ, ◌+◌, List, [], ◌∷◌, ◌++◌, length, Bool, true, false, cond, Option, Some, None, refl, sym, ap, ◌∙◌, subst, arith}
+use Rattle.std.proofs.Common.{◌≡◌, ℕ, ◌+◌, List, [], ◌∷◌, ◌++◌, length, Bool, true, false, cond, Option, Some, None, refl, sym, ap, ◌∙◌}
 use Rattle.std.proofs.lemmas.Bool.{and_parts}
 use Rattle.argot_tree.specs.declared.keyword.Keyword.TheVariants as words
 use Rattle.argot_tree.specs.declared.mark.Mark.TheVariants as marks
@@ -18,16 +18,11 @@ use Rattle.argot_spelling.specs.StatementReader.{begins_clause, labels, label_by
 use Rattle.argot_spelling.proofs.TokenTests.{has_word, has_mark}
 use Rattle.argot_spelling.proofs.PostLaws.{closed_posts, joined}
 use Rattle.argot_spelling.proofs.Holding.{Holds, none, given, bind, regroup, weaken, choose}
-use Rattle.argot_spelling.proofs.SoundReads.{Has, IsSound, node, bare, nothing, then, last, must}
+use Rattle.argot_spelling.proofs.SoundReads.{Has, IsSound, node, bare, nothing, then, last, must, behind_two}
 use Rattle.argot_spelling.proofs.SoundStatements.{more_sound, label_sound, return_sound, goto_sound}
 use Rattle.argot_spelling.proofs.SoundHeads.{ifs_sound}
 use Rattle.argot_spelling.proofs.SoundSwitches.{switch_sound}
 use Rattle.argot_spelling.proofs.SoundLoops.{for_sound}
-
-behind_two : {tokens : List Token} {z : Forest} {to : ℕ} (at : ℕ) → Spells tokens Stmts z (at + 1 + 1) to → Spells tokens Stmts z (at + 2) to
-behind_two {tokens} {z} {to} at s =
-    let e : at + 1 + 1 ≡ at + 2 = omega arith in
-    subst (λ t. Spells tokens Stmts z t to) e s
 
 -- a clause from its colon on
 clause_sound : {tokens : List Token} {rec : Reader} {p : Part} → IsSound tokens rec → (kind : NodeKind) (from : ℕ) (base : List Post) (r : ℕ × List Post) (whole : Forest → Forest) → ((z : Forest) (new : List Post) → new ≡ r.1 ++ posts z → new ≡ base ++ posts (whole z)) → ((z : Forest) (to : ℕ) → HasMark tokens r.0 marks.Colon → Spells tokens Stmts z (r.0 + 1) to → Spells tokens p (one kind from to (whole z)) from to) → Holds (Has tokens p from base) (clause_by tokens rec kind from (length base) r)

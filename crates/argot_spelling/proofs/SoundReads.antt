@@ -1,5 +1,5 @@
 -- What each task promises of what it reads, and how the promises are put together.
-use Rattle.std.proofs.Common.{◌≡◌, ℕ, ◌+◌, List, [], ◌∷◌, ◌++◌, length, Bool, true, false, cond, Option, Some, None, refl, sym, ap, ◌∙◌, subst, inl, inr}
+use Rattle.std.proofs.Common.{◌≡◌, ℕ, ◌+◌, List, [], ◌∷◌, ◌++◌, length, Bool, true, false, cond, Option, Some, None, refl, sym, ap, ◌∙◌, subst, inl, inr, arith}
 use Rattle.std.specs.Prelude.{◌⊎◌}
 use Rattle.std.proofs.lemmas.List.{append-nil}
 use Rattle.std.proofs.lemmas.Bool.{cond_both}
@@ -72,6 +72,12 @@ then {tokens} {rec} g p at out k = bind (rec (The p) at out) (g.kept (The p) at 
 
 pub last : {tokens : List Token} {rec : Reader} {Q : ℕ → List Post → Type 0} → IsSound tokens rec → (p : Part) (at : ℕ) (out : List Post) → ((to : ℕ) (new : List Post) → Has tokens p at out to new → Q to new) → Holds Q (rec (The p) at out)
 last {tokens} {rec} g p at out k = weaken (rec (The p) at out) (g.kept (The p) at out) k
+
+-- a place behind two tokens
+pub behind_two : {tokens : List Token} {p : Part} {x : Forest} {to : ℕ} (at : ℕ) → Spells tokens p x (at + 1 + 1) to → Spells tokens p x (at + 2) to
+behind_two {tokens} {p} {x} {to} at s =
+    let e : at + 1 + 1 ≡ at + 2 = omega arith in
+    subst (λ t. Spells tokens p x t to) e s
 
 -- a token that must stand there
 pub must : {tokens : List Token} {Q : ℕ → List Post → Type 0} (mark : Mark) (r : ℕ × List Post) (f : ℕ × List Post → Answer) → (HasMark tokens r.0 mark → Holds Q (f (r.0 + 1, r.1))) → Holds Q (past tokens mark r >>= f)
