@@ -16,3 +16,4 @@ pub mod SoundSwitches
 pub mod SoundLoops
 pub mod SoundClauses
 pub mod SoundDeclarations
+pub mod SoundFiles
