@@ -5,3 +5,5 @@ pub mod Claims
 pub mod Nodes
 pub mod Roots
 pub mod TypeParts
+pub mod OnlyTypes
+pub mod Arrows

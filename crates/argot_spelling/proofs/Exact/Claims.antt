@@ -95,6 +95,7 @@ module _ (tokens : List Token) where
 
   -- a type before which an arrow stands is read from its `chan` on, and recast
   pub record Recasts (n : ℕ) (out : List Post) (x : Forest) (from to : ℕ) : Type 0 where
+    pub channel : HasWord tokens (from + 1) words.Chan
     pub new : List Post
     pub reads : read tokens n (The OnlyType) (from + 1) out ≡ Some (to, out ++ new)
     pub is_typed : typed (out ++ new) ≡ true

@@ -53,7 +53,7 @@ and_false false = refl
 
 module _ (tokens : List Token) where
   -- no arrow stands there
-  no_arrow : {x : Forest} {from to : ℕ} → Not tokens from (kinds.Mark marks.Arrow) → OfArrow tokens x from to
+  pub no_arrow : {x : Forest} {from to : ℕ} → Not tokens from (kinds.Mark marks.Arrow) → OfArrow tokens x from to
   no_arrow {x} {from} {to} h n out a enough dot = absurd (false≢true (sym h.is ∙ ap (λ o. is_kind o (kinds.Mark marks.Arrow)) a.there ∙ refl))
 
   pub exact_type_name : {from : ℕ} → HasAt tokens from kinds.Name → OfType tokens (one nodes.TypeName from (from + 1) leaf) from (from + 1)
