@@ -10,6 +10,7 @@ pub mod Grows
 pub mod TokenTests
 pub mod PostLaws
 pub mod Holding
+pub mod Roots
 pub mod SoundReads
 pub mod SoundStatements
 pub mod SoundHeads
@@ -18,3 +19,4 @@ pub mod SoundLoops
 pub mod SoundClauses
 pub mod SoundDeclarations
 pub mod SoundFiles
+pub mod SoundTypes

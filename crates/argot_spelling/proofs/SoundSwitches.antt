@@ -24,55 +24,14 @@ use Rattle.argot_spelling.specs.StatementReader.{ending, put_empty, is_operation
 use Rattle.argot_spelling.proofs.TokenTests.{has_at, has_mark, has_word, passes}
 use Rattle.argot_spelling.proofs.PostLaws.{closed_posts, put_posts, joined}
 use Rattle.argot_spelling.proofs.Holding.{Holds, none, given, bind, regroup, choose}
+use Rattle.argot_spelling.proofs.Roots.{level_primary}
 use Rattle.argot_spelling.proofs.SoundReads.{Has, IsSound, then, must}
 use Rattle.argot_spelling.proofs.SoundStatements.{more_sound}
 use Rattle.argot_spelling.proofs.SoundHeads.{begins_body, body_no_ranges, guards_on, IsOpening, HasOpening, opening_sound, put_empty_posts}
 
--- the last node of a tree is its root
-pub last_post : (out : List Post) (kind : NodeKind) (from to : ℕ) (kids : Forest) → slice_get (out ++ posts (one kind from to kids)) (length (out ++ posts (one kind from to kids)) - 1) ≡ Some (record { kind = kind; token = from; last = last_token from to; size = size kids + 1 })
-last_post out kind from to kids =
-    let root : Post = record { kind = kind; token = from; last = last_token from to; size = size kids + 1 } in
-    let front : List Post = out ++ posts kids in
-    let whole : List Post = front ++ root ∷ [] in
-    let same : out ++ posts (one kind from to kids) ≡ whole = sym (append_assoc out (posts kids) (root ∷ [])) in
-    let there : length whole - 1 ≡ length front = omega (arith, length-append front (root ∷ [])) in
-    let inside : length front < length whole = omega (arith, length-append front (root ∷ [])) in
-    ap (λ l. slice_get l (length l - 1)) same ∙ ap (slice_get whole) there ∙ slice_get-get_or whole (length front) root inside ∙ ap Some (get_or-append_seam front root [] root)
-
-operation_or : Option NodeKind → Bool
-operation_or None = true
-operation_or (Some kind) = is_operation kind
-
-operations : (found : Option TokenKind) → operation_or (unary_of found) ≡ true
-unfolding operation_or
-operations (Some (kinds.Mark marks.Plus)) = refl
-operations (Some (kinds.Mark marks.Minus)) = refl
-operations (Some (kinds.Mark marks.Not)) = refl
-operations (Some (kinds.Mark marks.Xor)) = refl
-operations (Some (kinds.Mark marks.Star)) = refl
-operations (Some (kinds.Mark marks.And)) = refl
-operations (Some (kinds.Mark marks.Arrow)) = refl
-operations _ = refl
-
-unary_operation : {tokens : List Token} {at : ℕ} {kind : NodeKind} → HasUnary tokens at kind → is_operation kind ≡ true
-unfolding operation_or
-unary_operation {tokens} {at} h = ap operation_or (sym h.there) ∙ operations (kind_at tokens at)
-
-not_primary : (out : List Post) (kind : NodeKind) (from to : ℕ) (kids : Forest) → is_operation kind ≡ true → is_primary (out ++ posts (one kind from to kids)) ≡ false
-not_primary out kind from to kids h = ap (λ o. not (is_operation_post o)) (last_post out kind from to kids) ∙ ap not h
-
 -- an expression whose last node is no operation's is a primary one
-primary_of_unary : {tokens : List Token} {b : Bool} {x : Forest} {from to : ℕ} (out : List Post) → Spells tokens (Unary b) x from to → is_primary (out ++ posts x) ≡ true → Spells tokens (Primary b) x from to
-primary_of_unary out (primary s) h = s
-primary_of_unary out (unary {kind} {b} {x} {from} {to} u s) h = absurd (false≢true (sym (not_primary out kind from to x (unary_operation u)) ∙ h))
-
-primary_of_level : {tokens : List Token} {k : ℕ} {b : Bool} {x : Forest} {from to : ℕ} (out : List Post) → Spells tokens (Level k b) x from to → is_primary (out ++ posts x) ≡ true → Spells tokens (Primary b) x from to
-primary_of_level out (unary_level s) h = primary_of_unary out s h
-primary_of_level out (binary {k} {b} {x} {y} {from} {mid} {to} tight is left right) h =
-    absurd (false≢true (sym (not_primary out nodes.Binary from to (beside x y) refl) ∙ h))
-
 pub primary_of : {tokens : List Token} {k : ℕ} {b : Bool} {x : Forest} {from to : ℕ} (out new : List Post) → Spells tokens (Level k b) x from to → new ≡ out ++ posts x → is_primary new ≡ true → Spells tokens (Primary b) x from to
-primary_of out new s e h = primary_of_level out s (ap is_primary (sym e) ∙ h)
+primary_of out new s e h = level_primary out s (ap is_primary (sym e) ∙ h)
 
 -- the cases of a `switch` whose head is read
 switched_sound : {tokens : List Token} {rec : Reader} → IsSound tokens rec → (kind : NodeKind) (from : ℕ) (base : List Post) (r : ℕ × List Post) (whole : Forest → Forest) → ((z : Forest) (new : List Post) → new ≡ r.1 ++ posts z → new ≡ base ++ posts (whole z)) → ((z : Forest) (to : ℕ) → HasMark tokens r.0 marks.OpenBrace → Spells tokens Cases z (r.0 + 1) to → HasMark tokens to marks.CloseBrace → Spells tokens Stmt (one kind from (to + 1) (whole z)) from (to + 1)) → Holds (Has tokens Stmt from base) (switched_by tokens rec kind from (length base) r)
