@@ -11,6 +11,7 @@ pub mod TokenTests
 pub mod PostLaws
 pub mod Holding
 pub mod Roots
+pub mod Recasting
 pub mod SoundReads
 pub mod SoundStatements
 pub mod SoundHeads
