@@ -4,14 +4,20 @@ use Rattle.argot_tree.specs.declared.token.Token.{Token}
 use Rattle.argot_tree.specs.declared.token.TokenKind.{TokenKind}
 use Rattle.argot_spelling.specs.declared.post.Post.{Post}
 use Rattle.argot_spelling.specs.Reading.{Task, Reader}
-use Rattle.argot_spelling.specs.TypeReader.{type_by, formed_by, signature_by, params_by, types_by, named_list_by, names_by, embedded_by, tag_by, field_by, fields_by, element_by, elements_by}
-use Rattle.argot_spelling.proofs.Growing.{AlwaysGrows, Grows, Extends, growing, by}
+use Rattle.argot_spelling.specs.TypeReader.{named_type_by, result_by, type_by, formed_by, signature_by, params_by, types_by, named_list_by, names_by, embedded_by, tag_by, field_by, fields_by, element_by, elements_by}
+use Rattle.argot_spelling.proofs.Growing.{AlwaysGrows, Grows, Extends, growing, by, same}
 
 module _ (tokens : List Token) (rec : Reader) (g : AlwaysGrows rec) where
   further : (old out : List Post) (task : Task) (at : ℕ) → Extends old out → Grows old (rec task at out)
   further old out task at p = by task at g p
 
   module _ (at : ℕ) (out : List Post) where
+    pub named_grows : Grows out (named_type_by tokens at out)
+    named_grows = search growing depth 40 fits 20000
+
+    pub result_grows : Grows out (result_by tokens rec (at, out))
+    result_grows = search (growing, further, same out) depth 40 fits 20000
+
     pub type_grows : Grows out (type_by tokens rec at out)
     type_grows = search (growing, further) depth 40 fits 20000
 

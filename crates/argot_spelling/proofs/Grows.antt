@@ -6,12 +6,13 @@ use Rattle.argot_tree.specs.TokensAt.{kind_at}
 use Rattle.argot_tree.specs.Grammar.{File, Imports, Import, Specs, Spec, Tops, Top, Receiver, MaybeReceiver, MaybeTypeParams, MaybeBody, TypeParams, Balanced, Decl, Declared, DeclaredList, MaybeTyped, MaybeValues, Names, Signature, Params, Types, NamedList, AnyType, OnlyType, Fields, Field, Embedded, MaybeTag, Elements, Element, Level, Unary, Primary, Operand, Exprs, Either, Eithers, Elems, Items, Item, Value, Block, Stmts, Stmt, Simple, MaybeLabel, Cases, Case, Comms, Comm, MaybeCondition, MaybePost, If, MaybeInit, MaybeElse, MaybeSwitched, TypeGuard, Part}
 use Rattle.argot_spelling.specs.declared.post.Post.{Post}
 use Rattle.argot_spelling.specs.Reading.{Task, The, UnaryOr, PrimaryOr, OperandOr, Climb, Suffixes, MoreExprs, Ifs, Labels, Answer, Reader}
+use Rattle.argot_spelling.specs.TypeReader.{named_type_by, embedded_by, tag_by, result_by}
 use Rattle.argot_spelling.specs.ExpressionReader.{suffix_by}
 use Rattle.argot_spelling.specs.Reader.{part_by, step, read}
 use Rattle.argot_spelling.proofs.Growing.{AlwaysGrows, Grows, Extends, same}
 use Rattle.argot_spelling.proofs.GrowingFiles.{file_grows, imports_grows, import_grows, specs_grows, spec_grows, tops_grows, top_grows, receiver_grows, maybe_receiver_grows, maybe_type_params_grows, maybe_body_grows, type_params_grows, balanced_grows}
 use Rattle.argot_spelling.proofs.GrowingDeclarations.{decl_grows, declared_grows, declared_list_grows, maybe_typed_grows, maybe_values_grows}
-use Rattle.argot_spelling.proofs.GrowingTypes.{names_grows, signature_grows, params_grows, types_grows, named_list_grows, type_grows, formed_grows, fields_grows, field_grows, embedded_grows, tag_grows, elements_grows, element_grows}
+use Rattle.argot_spelling.proofs.GrowingTypes.{named_grows, result_grows, names_grows, signature_grows, params_grows, types_grows, named_list_grows, type_grows, formed_grows, fields_grows, field_grows, embedded_grows, tag_grows, elements_grows, element_grows}
 use Rattle.argot_spelling.proofs.GrowingExpressions.{level_grows, unary_grows, primary_grows, operand_grows, exprs_grows, either_grows, eithers_grows, elems_grows, items_grows, item_grows, value_grows, climb_grows, suffix_grows, suffixes_grows, more_exprs_grows}
 use Rattle.argot_spelling.proofs.GrowingStatements.{block_grows, stmts_grows, stmt_grows, simple_grows, maybe_label_grows, cases_grows, case_grows, comms_grows, comm_grows, maybe_condition_grows, maybe_post_grows, ifs_grows, labels_grows}
 
@@ -115,3 +116,19 @@ kept tokens n task at out = let a = after out (read tokens n task at out) (grows
 pub kept_suffix : (tokens : List Token) (n from mark at : ℕ) (out : List Post) → (suffix_by tokens (read tokens n) from mark at out ≡ suffix_by tokens (read tokens n) from mark at out) × (take (length out) (nodes_of (suffix_by tokens (read tokens n) from mark at out) out) ≡ out) × (length out ≤ length (nodes_of (suffix_by tokens (read tokens n) from mark at out) out))
 kept_suffix tokens n from mark at out =
     let a = after out (suffix_by tokens (read tokens n) from mark at out) (suffix_grows tokens (read tokens n) (grows tokens n) at out from mark) in (refl, a.0, a.1)
+
+pub kept_named : (tokens : List Token) (at : ℕ) (out : List Post) → (named_type_by tokens at out ≡ named_type_by tokens at out) × (take (length out) (nodes_of (named_type_by tokens at out) out) ≡ out) × (length out ≤ length (nodes_of (named_type_by tokens at out) out))
+kept_named tokens at out =
+    let a = after out (named_type_by tokens at out) (named_grows tokens (read tokens 0) (grows tokens 0) at out) in (refl, a.0, a.1)
+
+pub kept_embedded : (tokens : List Token) (at : ℕ) (out : List Post) → (embedded_by tokens at out ≡ embedded_by tokens at out) × (take (length out) (nodes_of (embedded_by tokens at out) out) ≡ out) × (length out ≤ length (nodes_of (embedded_by tokens at out) out))
+kept_embedded tokens at out =
+    let a = after out (embedded_by tokens at out) (embedded_grows tokens (read tokens 0) (grows tokens 0) at out) in (refl, a.0, a.1)
+
+pub kept_tag : (tokens : List Token) (at : ℕ) (out : List Post) → (tag_by tokens at out ≡ tag_by tokens at out) × (take (length out) (nodes_of (tag_by tokens at out) out) ≡ out) × (length out ≤ length (nodes_of (tag_by tokens at out) out))
+kept_tag tokens at out =
+    let a = after out (tag_by tokens at out) (tag_grows tokens (read tokens 0) (grows tokens 0) at out) in (refl, a.0, a.1)
+
+pub kept_result : (tokens : List Token) (n at : ℕ) (out : List Post) → (result_by tokens (read tokens n) (at, out) ≡ result_by tokens (read tokens n) (at, out)) × (take (length out) (nodes_of (result_by tokens (read tokens n) (at, out)) out) ≡ out) × (length out ≤ length (nodes_of (result_by tokens (read tokens n) (at, out)) out))
+kept_result tokens n at out =
+    let a = after out (result_by tokens (read tokens n) (at, out)) (result_grows tokens (read tokens n) (grows tokens n) at out) in (refl, a.0, a.1)
