@@ -35,10 +35,13 @@ module _ (tokens : List Token) where
   abbrev pub maybe_typed_by : Reader → ℕ → List Post → Answer
   maybe_typed_by rec at out = if begins_type (kind_at tokens at) then rec (The AnyType) at out else Some (at, out)
 
+  abbrev pub typed_values_by : Reader → ℕ × List Post → Answer
+  typed_values_by rec r = rec (The MaybeTyped) r.0 r.1 >>= values_by rec
+
   -- what stands behind the names of constants and of variables, whose specification begins at a token
   abbrev pub constants_by : Reader → ℕ → List Post → ℕ × List Post → Answer
   constants_by rec at out r =
-      try_on (rec (The MaybeTyped) r.0 r.1 >>= values_by rec) (closing nodes.ConstSpec at out) (closing nodes.ConstSpec at out r)
+      try_on (typed_values_by rec r) (closing nodes.ConstSpec at out) (closing nodes.ConstSpec at out r)
 
   abbrev pub variables_by : Reader → ℕ → List Post → ℕ × List Post → Answer
   variables_by rec at out r =

@@ -139,6 +139,16 @@ module _ (tokens : List Token) where
       then Some (at + 2, closed nodes.Goto at (at + 2) (length out) (put nodes.LabelUse (at + 1) (at + 2) out))
       else None
 
+  abbrev pub decl_stmt_by : Reader → ℕ → List Post → Answer
+  decl_stmt_by rec at out = rec (The Decl) at out >>= closing nodes.DeclStmt at out
+
+  -- a keyword and an expression, and a keyword and maybe a label
+  abbrev pub keyword_by : Reader → NodeKind → ℕ → List Post → Answer
+  keyword_by rec kind at out = rec (The (Level 1 true)) (at + 1) out >>= closing kind at out
+
+  abbrev pub jump_by : Reader → NodeKind → ℕ → List Post → Answer
+  jump_by rec kind at out = rec (The MaybeLabel) (at + 1) out >>= closing kind at out
+
   -- expressions under a node of their own
   abbrev pub exprs_node_by : Reader → Bool → ℕ → List Post → Answer
   exprs_node_by rec b at out = rec (The (Exprs b)) at out >>= closing nodes.Exprs at out
@@ -147,13 +157,17 @@ module _ (tokens : List Token) where
   abbrev pub more_by : Reader → Bool → ℕ × List Post → Answer
   more_by rec b r = if is_mark tokens r.0 marks.Comma then rec (The (Exprs b)) (r.0 + 1) r.1 else Some r
 
+  abbrev pub assigned_by : Reader → NodeKind → Bool → ℕ → ℕ → ℕ × List Post → Answer
+  assigned_by rec kind b from mark r =
+      exprs_node_by rec b (r.0 + 1) (closed nodes.Exprs from r.0 mark r.1) >>= ending kind from mark
+
   -- an assignment whose left sides are read
   abbrev pub assign_by : Reader → Bool → ℕ → ℕ → ℕ × List Post → Answer
   assign_by rec b from mark r =
       if is_mark tokens r.0 marks.Assign
-      then exprs_node_by rec b (r.0 + 1) (closed nodes.Exprs from r.0 mark r.1) >>= ending nodes.Assign from mark
+      then assigned_by rec nodes.Assign b from mark r
       else (if is_op_assign (kind_at tokens r.0)
-      then exprs_node_by rec b (r.0 + 1) (closed nodes.Exprs from r.0 mark r.1) >>= ending nodes.OpAssign from mark
+      then assigned_by rec nodes.OpAssign b from mark r
       else None)
 
   -- a simple statement whose first expression is read
@@ -170,10 +184,13 @@ module _ (tokens : List Token) where
   define_behind_by rec b from mark r =
       if is_mark tokens r.0 marks.Define then exprs_node_by rec b (r.0 + 1) r.1 >>= ending nodes.Define from mark else None
 
+  abbrev pub define_by : Reader → Bool → ℕ → List Post → Answer
+  define_by rec b at out = (rec (The Names) at out >>= closing nodes.Names at out) >>= define_behind_by rec b at (length out)
+
   abbrev pub simple_by : Reader → Bool → ℕ → List Post → Answer
   simple_by rec b at out =
       if defines at
-      then (rec (The Names) at out >>= closing nodes.Names at out) >>= define_behind_by rec b at (length out)
+      then define_by rec b at out
       else (rec (The (Level 1 b)) at out >>= simple_behind_by rec b at (length out))
 
   -- the beginning of a head: an expression or expressions where a brace, `.(type)` or `range` follows, and else a simple
@@ -360,14 +377,14 @@ module _ (tokens : List Token) where
 
   -- a statement, by the token that begins it
   abbrev pub stmt_by : Reader → Option TokenKind → ℕ → List Post → Answer
-  stmt_by rec (Some (kinds.Word words.Const)) at out = rec (The Decl) at out >>= closing nodes.DeclStmt at out
-  stmt_by rec (Some (kinds.Word words.Var)) at out = rec (The Decl) at out >>= closing nodes.DeclStmt at out
-  stmt_by rec (Some (kinds.Word words.TypeWord)) at out = rec (The Decl) at out >>= closing nodes.DeclStmt at out
-  stmt_by rec (Some (kinds.Word words.Go)) at out = rec (The (Level 1 true)) (at + 1) out >>= closing nodes.Go at out
-  stmt_by rec (Some (kinds.Word words.Defer)) at out = rec (The (Level 1 true)) (at + 1) out >>= closing nodes.Defer at out
+  stmt_by rec (Some (kinds.Word words.Const)) at out = decl_stmt_by rec at out
+  stmt_by rec (Some (kinds.Word words.Var)) at out = decl_stmt_by rec at out
+  stmt_by rec (Some (kinds.Word words.TypeWord)) at out = decl_stmt_by rec at out
+  stmt_by rec (Some (kinds.Word words.Go)) at out = keyword_by rec nodes.Go at out
+  stmt_by rec (Some (kinds.Word words.Defer)) at out = keyword_by rec nodes.Defer at out
   stmt_by rec (Some (kinds.Word words.Return)) at out = return_by rec at out
-  stmt_by rec (Some (kinds.Word words.Break)) at out = rec (The MaybeLabel) (at + 1) out >>= closing nodes.Break at out
-  stmt_by rec (Some (kinds.Word words.Continue)) at out = rec (The MaybeLabel) (at + 1) out >>= closing nodes.Continue at out
+  stmt_by rec (Some (kinds.Word words.Break)) at out = jump_by rec nodes.Break at out
+  stmt_by rec (Some (kinds.Word words.Continue)) at out = jump_by rec nodes.Continue at out
   stmt_by rec (Some (kinds.Word words.Goto)) at out = goto_by at out
   stmt_by rec (Some (kinds.Word words.Fallthrough)) at out = Some (at + 1, put nodes.Fallthrough at (at + 1) out)
   stmt_by rec (Some (kinds.Word words.If)) at out = rec (Ifs []) at out
