@@ -51,3 +51,8 @@ choose {Q} b {x} {y} p q = cond_both b x y (Holds Q) p q
 -- a choice, and then more
 pub choose_then : {Q : ℕ → List Post → Type 0} (b : Bool) (x y : Answer) (f : ℕ × List Post → Answer) → (b ≡ true → Holds Q (x >>= f)) → (b ≡ false → Holds Q (y >>= f)) → Holds Q (cond b x y >>= f)
 choose_then {Q} b x y f p q = cond_both b x y (λ a. Holds Q (a >>= f)) p q
+
+-- what holds of an answer for each of these
+pub each : {I : Type 0} (P : I → ℕ → List Post → Type 0) (a : Answer) → ((i : I) → Holds (P i) a) → Holds (λ to new. (i : I) → P i to new) a
+each P None h = none
+each P (Some r) h = given (λ i. (h i).held)

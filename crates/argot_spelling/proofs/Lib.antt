@@ -21,3 +21,5 @@ pub mod SoundClauses
 pub mod SoundDeclarations
 pub mod SoundFiles
 pub mod SoundTypes
+pub mod SoundExpressions
+pub mod SoundOperands

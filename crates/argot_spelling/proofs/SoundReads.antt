@@ -36,6 +36,15 @@ HasOr tokens p types at out to new = (x : Forest) × IsOr tokens p types x at to
 abbrev pub IsLabeled : List Token → Forest → ℕ → ℕ → Type 0
 IsLabeled tokens x from to = Spells tokens Stmt x from to ⊎ ((x ≡ one nodes.Empty from from leaf) × (to ≡ from))
 
+-- an operand that was read from a token on, with its nodes since a mark
+pub record IsOperand (tokens : List Token) (from mark at : ℕ) (out : List Post) : Type 0 where
+  pub bare : Bool
+  pub x : Forest
+  pub base : List Post
+  pub nodes : out ≡ base ++ posts x
+  pub since : mark ≡ length base
+  pub spelled : Spells tokens (Primary bare) x from at
+
 -- the same of what goes on behind something
 abbrev pub Reads : List Token → Task → ℕ → List Post → ℕ → List Post → Type 0
 Reads tokens (The p) at out to new = Has tokens p at out to new
@@ -44,8 +53,7 @@ Reads tokens (PrimaryOr types b) at out to new = HasOr tokens (Primary b) types 
 Reads tokens (OperandOr types b) at out to new = HasOr tokens (Operand b) types at out to new
 Reads tokens (Climb k limit b from mark) at out to new =
     (x : Forest) (base : List Post) → out ≡ base ++ posts x → mark ≡ length base → Spells tokens (Level k b) x from at → Spells tokens (Level limit b) x from at → Has tokens (Level k b) from base to new
-Reads tokens (Suffixes from mark) at out to new =
-    (b : Bool) (x : Forest) (base : List Post) → out ≡ base ++ posts x → mark ≡ length base → Spells tokens (Primary b) x from at → Has tokens (Primary b) from base to new
+Reads tokens (Suffixes from mark) at out to new = (h : IsOperand tokens from mark at out) → Has tokens (Primary h.bare) from h.base to new
 Reads tokens (MoreExprs b) at out to new =
     (x : Forest) (from : ℕ) (base : List Post) → out ≡ base ++ posts x → Spells tokens (Level 1 b) x from at → Has tokens (Exprs b) from base to new
 Reads tokens (Ifs begun) at out to new = (x : Forest) × Spells tokens If x at to × (new ≡ closed_all nodes.If begun to (out ++ posts x))
