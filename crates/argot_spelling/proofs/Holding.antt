@@ -4,7 +4,7 @@ use Rattle.std.proofs.lemmas.Bool.{cond_both}
 use Rattle.argot_spelling.specs.declared.post.Post.{Post}
 use Rattle.argot_spelling.specs.Reading.{Answer, ◌>>=◌, try_on}
 
-abbrev IsHeld : (ℕ → List Post → Type 0) → Answer → Type 0
+abbrev pub IsHeld : (ℕ → List Post → Type 0) → Answer → Type 0
 IsHeld P None = Unit {0}
 IsHeld P (Some r) = P r.0 r.1
 

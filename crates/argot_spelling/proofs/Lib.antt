@@ -23,3 +23,4 @@ pub mod SoundFiles
 pub mod SoundTypes
 pub mod SoundExpressions
 pub mod SoundOperands
+pub mod Sound

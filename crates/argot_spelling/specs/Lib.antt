@@ -7,3 +7,4 @@ pub mod StatementReader
 pub mod DeclarationReader
 pub mod FileReader
 pub mod Reader
+pub mod Laws

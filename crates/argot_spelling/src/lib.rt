@@ -4,6 +4,8 @@
 //! children. The parser's code gives what it gives; here stand the laws that relate it to `Spells` of argot_tree.
 #![tactic(auto)]
 
+mod laws;
 mod post;
 
+pub use laws::reads_spelled;
 pub use post::Post;

@@ -1,0 +1,14 @@
+-- What reading has to do with the trees that spell the tokens.
+use Rattle.std.specs.Prelude.{◌≡◌, ℕ, ◌++◌, List, Some}
+use Rattle.argot_tree.specs.declared.token.Token.{Token}
+use Rattle.argot_tree.specs.Forests.{Forest}
+use Rattle.argot_tree.specs.Grammar.{Part, Spells}
+use Rattle.argot_spelling.specs.declared.post.Post.{Post}
+use Rattle.argot_spelling.specs.Posts.{posts}
+use Rattle.argot_spelling.specs.Reading.{The}
+use Rattle.argot_spelling.specs.Reader.{read}
+
+-- what is read as a part is spelled so, and its nodes stand behind those that were there
+abbrev pub ReadsSpelled : List Token → Type 0
+ReadsSpelled tokens =
+    (n : ℕ) (part : Part) (at to : ℕ) (out new : List Post) → read tokens n (The part) at out ≡ Some (to, new) → (x : Forest) × Spells tokens part x at to × (new ≡ out ++ posts x)
