@@ -1,5 +1,5 @@
 -- What holds of an answer: the combinators.
-use Rattle.std.proofs.Common.{◌≡◌, ℕ, ◌+◌, List, Bool, true, false, cond, Option, Some, None, refl, sym, subst, ap}
+use Rattle.std.proofs.Common.{◌≡◌, ℕ, List, Bool, true, false, cond, Some, None}
 use Rattle.std.proofs.lemmas.Bool.{cond_both}
 use Rattle.argot_spelling.specs.declared.post.Post.{Post}
 use Rattle.argot_spelling.specs.Reading.{Answer, ◌>>=◌, try_on}

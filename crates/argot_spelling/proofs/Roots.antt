@@ -12,7 +12,7 @@ use Rattle.argot_tree.specs.declared.token.TokenKind.TheVariants as kinds
 use Rattle.argot_tree.specs.declared.token.Token.{Token}
 use Rattle.argot_tree.specs.TokensAt.{kind_at, unary_of, HasUnary}
 use Rattle.argot_tree.specs.Forests.{Forest, leaf, tree, beside, one, size}
-use Rattle.argot_tree.specs.Grammar.{Part, OnlyType, Operand, Primary, Unary, Level, Spells, unary_level, binary, only_pointer, array_type, slice_type, map_type, chan_type, send_type, receive_type, func_type, struct_type, interface_type, unary, primary, operand, literal, name_use, parens, func_literal, composite, open_composite, bare_composite, conversion, selector, index, slice_all, slice_from, slice_to, slice_between, slice_to_max, slice_between_max, assertion, call_none, call, spread_call}
+use Rattle.argot_tree.specs.Grammar.{OnlyType, Operand, Primary, Unary, Level, Spells, unary_level, binary, only_pointer, array_type, slice_type, map_type, chan_type, send_type, receive_type, func_type, struct_type, interface_type, unary, primary, operand, literal, name_use, parens, func_literal, composite, open_composite, bare_composite, conversion, selector, index, slice_all, slice_from, slice_to, slice_between, slice_to_max, slice_between_max, assertion, call_none, call, spread_call}
 use Rattle.argot_spelling.specs.declared.post.Post.{Post}
 use Rattle.argot_spelling.specs.Posts.{posts}
 use Rattle.argot_spelling.specs.ExpressionReader.{is_type, is_type_post, typed}

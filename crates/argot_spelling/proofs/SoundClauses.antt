@@ -1,6 +1,5 @@
 -- The clauses of a `switch` and of a `select` that are read are spelled, and so is a statement.
-use Rattle.std.proofs.Common.{◌≡◌, ℕ, ◌+◌, List, [], ◌∷◌, ◌++◌, length, Bool, true, false, cond, Option, Some, None, refl, sym, ap, ◌∙◌}
-use Rattle.std.proofs.lemmas.Bool.{and_parts}
+use Rattle.std.proofs.Common.{◌≡◌, ℕ, ◌+◌, List, [], ◌++◌, length, true, Option, Some, refl}
 use Rattle.argot_tree.specs.declared.keyword.Keyword.TheVariants as words
 use Rattle.argot_tree.specs.declared.mark.Mark.TheVariants as marks
 use Rattle.argot_tree.specs.declared.node_kind.NodeKind.{NodeKind}
@@ -8,19 +7,18 @@ use Rattle.argot_tree.specs.declared.node_kind.NodeKind.TheVariants as nodes
 use Rattle.argot_tree.specs.declared.token.TokenKind.{TokenKind}
 use Rattle.argot_tree.specs.declared.token.TokenKind.TheVariants as kinds
 use Rattle.argot_tree.specs.declared.token.Token.{Token}
-use Rattle.argot_tree.specs.Forests.{Forest, leaf, beside, one}
-use Rattle.argot_tree.specs.TokensAt.{kind_at, HasAt, HasMark, HasWord}
-use Rattle.argot_tree.specs.Grammar.{Part, Level, Exprs, Eithers, Decl, Block, Stmts, Stmt, Simple, MaybeLabel, If, Cases, Case, Comms, Comm, Spells, decl_stmt, simple_stmt, go_stmt, defer_stmt, break_stmt, continue_stmt, fallthrough_stmt, block_stmt, if_stmt, no_case, one_case, case, default_case, select, no_comm, one_comm, send_comm, assign_comm, define_comm, receive_comm, default_comm}
+use Rattle.argot_tree.specs.Forests.{Forest, beside, one}
+use Rattle.argot_tree.specs.TokensAt.{kind_at, HasMark, HasWord}
+use Rattle.argot_tree.specs.Grammar.{Part, Level, Exprs, Eithers, Decl, Block, Stmts, Stmt, Simple, MaybeLabel, Cases, Case, Comms, Comm, Spells, decl_stmt, simple_stmt, go_stmt, defer_stmt, break_stmt, continue_stmt, fallthrough_stmt, block_stmt, if_stmt, no_case, one_case, case, default_case, select, no_comm, one_comm, send_comm, assign_comm, define_comm, receive_comm, default_comm}
 use Rattle.argot_spelling.specs.declared.post.Post.{Post}
 use Rattle.argot_spelling.specs.Posts.{posts}
-use Rattle.argot_spelling.specs.Reading.{The, Ifs, Answer, Reader, ◌>>=◌, closed, put, closing, is_word, is_mark}
-use Rattle.argot_spelling.specs.StatementReader.{begins_clause, labels, label_by, more_by, clause_by, cases_by, case_by, select_by, comms_by, received_by, comm_behind_by, comm_by, stmt_by}
+use Rattle.argot_spelling.specs.Reading.{The, Ifs, Reader, ◌>>=◌, closed, closing, is_word, is_mark}
+use Rattle.argot_spelling.specs.StatementReader.{begins_clause, labels, more_by, clause_by, cases_by, case_by, select_by, comms_by, received_by, comm_behind_by, comm_by, stmt_by}
 use Rattle.argot_spelling.proofs.TokenTests.{has_word, has_mark}
 use Rattle.argot_spelling.proofs.PostLaws.{closed_posts, joined}
 use Rattle.argot_spelling.proofs.Holding.{Holds, none, given, bind, regroup, weaken, choose}
 use Rattle.argot_spelling.proofs.SoundReads.{Has, IsSound, node, bare, nothing, then, last, must, behind_two}
 use Rattle.argot_spelling.proofs.SoundStatements.{more_sound, label_sound, return_sound, goto_sound}
-use Rattle.argot_spelling.proofs.SoundHeads.{ifs_sound}
 use Rattle.argot_spelling.proofs.SoundSwitches.{switch_sound}
 use Rattle.argot_spelling.proofs.SoundLoops.{for_sound}
 

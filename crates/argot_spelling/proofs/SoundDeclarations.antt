@@ -1,18 +1,17 @@
 -- Declarations that are read are spelled.
-use Rattle.std.proofs.Common.{◌≡◌, ℕ, ◌+◌, List, [], ◌∷◌, ◌++◌, length, Bool, true, false, ◌&&◌, cond, Option, Some, None, refl, sym, ap, ◌∙◌}
+use Rattle.std.proofs.Common.{◌≡◌, ℕ, ◌+◌, List, ◌++◌, length, true, ◌&&◌, refl}
 use Rattle.std.proofs.lemmas.Bool.{and_parts}
 use Rattle.argot_tree.specs.declared.keyword.Keyword.TheVariants as words
 use Rattle.argot_tree.specs.declared.mark.Mark.TheVariants as marks
-use Rattle.argot_tree.specs.declared.node_kind.NodeKind.{NodeKind}
 use Rattle.argot_tree.specs.declared.node_kind.NodeKind.TheVariants as nodes
 use Rattle.argot_tree.specs.declared.token.TokenKind.TheVariants as kinds
 use Rattle.argot_tree.specs.declared.token.Token.{Token}
 use Rattle.argot_tree.specs.Forests.{Forest, leaf, beside, one}
-use Rattle.argot_tree.specs.TokensAt.{kind_at, HasAt, HasMark, HasWord, Passes, is_semicolon, begins_type, follows_parameter}
+use Rattle.argot_tree.specs.TokensAt.{kind_at, HasMark, HasWord, is_semicolon, begins_type, follows_parameter}
 use Rattle.argot_tree.specs.Grammar.{Sort, Constant, Variable, TypeSort, AnyType, Exprs, Names, Decl, Declared, DeclaredList, MaybeTyped, MaybeValues, TypeParams, Spells, decl_const, group_const, decl_var, group_var, decl_type, group_type, no_declared, last_declared, one_declared, constants, constants_are, variables_typed, variables_are, untyped, typed, no_values, some_values, type_spec, alias_spec, generic_spec, generic_alias}
 use Rattle.argot_spelling.specs.declared.post.Post.{Post}
 use Rattle.argot_spelling.specs.Posts.{posts}
-use Rattle.argot_spelling.specs.Reading.{The, Answer, Reader, ◌>>=◌, closed, put, is_at, is_word, is_mark}
+use Rattle.argot_spelling.specs.Reading.{The, Reader, ◌>>=◌, put, is_at, is_word, is_mark}
 use Rattle.argot_spelling.specs.DeclarationReader.{group_kind, decl_kind, values_by, maybe_values_by, maybe_typed_by, constants_by, variables_by, named_type_by, is_generic, type_by, declared_by, declared_behind_by, declared_list_by, sort_by, decl_by}
 use Rattle.argot_spelling.proofs.TokenTests.{has_at, has_word, has_mark, passes}
 use Rattle.argot_spelling.proofs.PostLaws.{closed_posts, put_posts, joined}

@@ -1,5 +1,5 @@
 -- Files that are read are spelled: imports, declarations at the top, receivers and type parameters.
-use Rattle.std.proofs.Common.{◌≡◌, ℕ, ◌+◌, List, [], ◌∷◌, ◌++◌, length, Bool, true, false, ◌&&◌, cond, Option, Some, None, refl, sym, ap, ◌∙◌, subst}
+use Rattle.std.proofs.Common.{◌≡◌, ℕ, ◌+◌, List, ◌++◌, length, ◌&&◌, refl, sym, ap, ◌∙◌, subst}
 use Rattle.std.proofs.lemmas.List.{append-nil}
 use Rattle.std.proofs.lemmas.Bool.{and_parts}
 use Rattle.argot_tree.specs.declared.keyword.Keyword.TheVariants as words
@@ -9,17 +9,16 @@ use Rattle.argot_tree.specs.declared.node_kind.NodeKind.TheVariants as nodes
 use Rattle.argot_tree.specs.declared.token.TokenKind.TheVariants as kinds
 use Rattle.argot_tree.specs.declared.token.Token.{Token}
 use Rattle.argot_tree.specs.Forests.{Forest, leaf, beside, one}
-use Rattle.argot_tree.specs.TokensAt.{kind_at, HasAt, HasMark, HasWord, Passes, is_semicolon, is_text, is_no_bracket, begins_type}
+use Rattle.argot_tree.specs.TokensAt.{kind_at, HasMark, HasWord, is_semicolon, is_text, is_no_bracket, begins_type}
 use Rattle.argot_tree.specs.Grammar.{File, Imports, Import, Specs, Spec, Tops, Top, Receiver, MaybeReceiver, TypeParams, MaybeTypeParams, Balanced, MaybeBody, Decl, Signature, AnyType, Block, Spells, file, no_import, one_import, import_one, import_group, no_spec, last_spec, one_spec, spec, dot_spec, named_spec, no_top, one_top, top_decl, top_func, no_receiver, a_receiver, receiver_type, receiver_named, no_type_params, some_type_params, no_body, a_body, type_params, balanced_none, balanced_token, balanced_parens, balanced_brackets, balanced_braces}
 use Rattle.argot_spelling.specs.declared.post.Post.{Post}
 use Rattle.argot_spelling.specs.Posts.{posts}
-use Rattle.argot_spelling.specs.Reading.{The, Answer, Reader, ◌>>=◌, closed, put, closing, is_at, is_word, is_mark, past, past_list}
-use Rattle.argot_spelling.specs.StatementReader.{past_semicolon}
+use Rattle.argot_spelling.specs.Reading.{The, Reader, ◌>>=◌, closed, put, closing, is_at, is_word, is_mark, past}
 use Rattle.argot_spelling.specs.FileReader.{is_end, file_by, imports_by, import_by, specs_behind_by, specs_by, spec_by, tops_by, func_by, top_by, maybe_receiver_by, receiver_by, maybe_type_params_by, type_params_by, in_brackets_by, opens_bracket, balanced_by, maybe_body_by}
 use Rattle.argot_spelling.proofs.TokenTests.{has_at, has_word, has_mark, passes}
 use Rattle.argot_spelling.proofs.PostLaws.{closed_posts, put_posts, joined}
 use Rattle.argot_spelling.proofs.Holding.{Holds, none, given, bind, regroup, choose}
-use Rattle.argot_spelling.proofs.SoundReads.{Has, IsSound, node, bare, nothing, then, last, must, must_list, must_semicolon}
+use Rattle.argot_spelling.proofs.SoundReads.{Has, IsSound, node, nothing, then, last, must, must_list, must_semicolon}
 
 pub file_sound : {tokens : List Token} {rec : Reader} → IsSound tokens rec → (at : ℕ) (out : List Post) → Holds (Has tokens File at out) (file_by tokens rec at out)
 file_sound {tokens} {rec} g at out =
@@ -84,7 +83,7 @@ func_sound {tokens} {rec} g at out r w h =
     (λ e. regroup (rec (The MaybeTypeParams) (r.0 + 1) named >>= λ q. rec (The Signature) q.0 q.1) _ _ (regroup (rec (The MaybeTypeParams) (r.0 + 1) named) _ _
     (then g MaybeTypeParams (r.0 + 1) named (λ q k. then g Signature q.0 q.1 (λ s l. then g MaybeBody s.0 s.1 (λ t m.
     given (node nodes.FuncDecl at out (top_func w h.1 (has_at r.0 kinds.Name e) k.1 l.1 m.1)
-    (joined out r.1 t.1 h.0 (beside name (beside k.0 (beside l.0 m.0))) h.2 (joined r.1 named t.1 name (beside k.0 (beside l.0 m.0)) (put_posts nodes.DeclName r.0 (r.0 + 1) r.1) (joined named q.1 t.1 k.0 (beside l.0 m.0) k.2 (joined q.1 s.1 t.1 l.0 m.0 l.2 m.2))))))))))) 
+    (joined out r.1 t.1 h.0 (beside name (beside k.0 (beside l.0 m.0))) h.2 (joined r.1 named t.1 name (beside k.0 (beside l.0 m.0)) (put_posts nodes.DeclName r.0 (r.0 + 1) r.1) (joined named q.1 t.1 k.0 (beside l.0 m.0) k.2 (joined q.1 s.1 t.1 l.0 m.0 l.2 m.2)))))))))))
     (λ _. none)
 
 pub top_sound : {tokens : List Token} {rec : Reader} → IsSound tokens rec → (at : ℕ) (out : List Post) → Holds (Has tokens Top at out) (top_by tokens rec at out)

@@ -1,10 +1,8 @@
 -- What is read in the heads of `if`, `switch` and `for`.
-use Rattle.std.proofs.Common.{◌≡◌, ℕ, ◌+◌, ◌-◌, List, [], ◌∷◌, ◌++◌, length, Bool, true, false, ◌&&◌, cond, Option, Some, None, refl, sym, ap, ◌∙◌, subst, inl, inr, ⊎_elim, append_assoc, arith, length-append}
-use Rattle.std.specs.Prelude.{◌⊎◌, ◌||◌, not, slice_get}
-use Rattle.std.specs.List.{remove}
+use Rattle.std.proofs.Common.{◌≡◌, ℕ, ◌+◌, List, ◌∷◌, ◌++◌, length, Bool, true, false, ◌&&◌, Option, Some, refl, sym, ap, ◌∙◌, inl, inr, ⊎_elim}
+use Rattle.std.specs.Prelude.{◌⊎◌, ◌||◌}
 use Rattle.std.proofs.lemmas.List.{append-nil}
-use Rattle.std.proofs.lemmas.List.Edits.{remove-append_right}
-use Rattle.std.proofs.lemmas.Bool.{cond_both, and_parts, false≢true}
+use Rattle.std.proofs.lemmas.Bool.{and_parts, false≢true}
 use Rattle.argot_tree.specs.declared.keyword.Keyword.TheVariants as words
 use Rattle.argot_tree.specs.declared.mark.Mark.{Mark}
 use Rattle.argot_tree.specs.declared.mark.Mark.TheVariants as marks
@@ -14,17 +12,17 @@ use Rattle.argot_tree.specs.declared.token.TokenKind.{TokenKind}
 use Rattle.argot_tree.specs.declared.token.TokenKind.TheVariants as kinds
 use Rattle.argot_tree.specs.declared.token.Token.{Token}
 use Rattle.argot_tree.specs.Forests.{Forest, leaf, beside, one}
-use Rattle.argot_tree.specs.TokensAt.{kind_at, HasAt, HasMark, HasWord, Passes, is_semicolon, is_op_assign}
-use Rattle.argot_tree.specs.Grammar.{Part, Level, Exprs, Names, Block, Stmt, Simple, If, MaybeInit, MaybeElse, Spells, if_stmt, last_expr, one_expr, no_init, empty_init, an_init, if_, no_else, else_if, else_block}
+use Rattle.argot_tree.specs.TokensAt.{kind_at, HasMark, HasWord, Passes, is_semicolon}
+use Rattle.argot_tree.specs.Grammar.{Level, Exprs, Block, Simple, If, MaybeInit, Spells, last_expr, no_init, empty_init, an_init, if_, no_else, else_if, else_block}
 use Rattle.argot_spelling.specs.declared.post.Post.{Post}
 use Rattle.argot_spelling.specs.Posts.{posts}
-use Rattle.argot_spelling.specs.Reading.{The, Ifs, Labels, Answer, Reader, ◌>>=◌, closed, put, closing, closed_all, is_at, is_word, is_mark, past}
-use Rattle.argot_spelling.specs.StatementReader.{ending, put_empty, is_range, defines, ranges, guards, at_semicolon, more_by, assign_by, simple_behind_by, simple_by, begins_assign, listed_by, opened_by, opening_by, condition_behind_by, condition_by, else_by, ifs_by}
-use Rattle.argot_spelling.proofs.TokenTests.{has_at, has_mark, has_word, passes}
+use Rattle.argot_spelling.specs.Reading.{The, Ifs, Answer, Reader, ◌>>=◌, closed, put, closed_all, is_word, is_mark}
+use Rattle.argot_spelling.specs.StatementReader.{put_empty, is_range, defines, ranges, guards, at_semicolon, more_by, assign_by, simple_behind_by, begins_assign, listed_by, opened_by, opening_by, condition_behind_by, condition_by, else_by, ifs_by}
+use Rattle.argot_spelling.proofs.TokenTests.{has_mark, has_word, passes}
 use Rattle.argot_spelling.proofs.PostLaws.{closed_posts, put_posts, joined, joined_last}
-use Rattle.argot_spelling.proofs.Holding.{Holds, none, given, bind, regroup, try, weaken, choose, choose_then}
-use Rattle.argot_spelling.proofs.SoundReads.{Has, Reads, IsSound, node, bare, nothing, then, last, must, must_list, must_semicolon, before_semicolon}
-use Rattle.argot_spelling.proofs.SoundStatements.{Chained, HasNode, more_sound, assign_sound, simple_behind_sound}
+use Rattle.argot_spelling.proofs.Holding.{Holds, none, given, bind, regroup, weaken, choose}
+use Rattle.argot_spelling.proofs.SoundReads.{Has, IsSound, then, last}
+use Rattle.argot_spelling.proofs.SoundStatements.{Chained, more_sound, assign_sound, simple_behind_sound}
 
 -- either of two tests
 or_parts : (a b : Bool) → (a || b) ≡ true → (a ≡ true) ⊎ (b ≡ true)

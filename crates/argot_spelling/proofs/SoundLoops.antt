@@ -1,8 +1,8 @@
 -- A `for` that is read is spelled.
-use Rattle.std.proofs.Common.{◌≡◌, ℕ, ◌+◌, List, [], ◌∷◌, ◌++◌, length, Bool, true, false, cond, Option, Some, None, refl, sym, ap, ◌∙◌, subst, ⊎_elim}
+use Rattle.std.proofs.Common.{◌≡◌, ℕ, ◌+◌, List, ◌++◌, length, Bool, true, false, cond, Option, Some, refl, sym, ap, ◌∙◌, ⊎_elim}
 use Rattle.std.specs.Prelude.{◌⊎◌}
 use Rattle.std.proofs.lemmas.List.{append-nil}
-use Rattle.std.proofs.lemmas.Bool.{cond_both, false≢true}
+use Rattle.std.proofs.lemmas.Bool.{false≢true}
 use Rattle.argot_tree.specs.declared.keyword.Keyword.TheVariants as words
 use Rattle.argot_tree.specs.declared.mark.Mark.TheVariants as marks
 use Rattle.argot_tree.specs.declared.node_kind.NodeKind.{NodeKind}
@@ -15,11 +15,11 @@ use Rattle.argot_tree.specs.TokensAt.{kind_at, HasMark, HasWord, Passes, is_semi
 use Rattle.argot_tree.specs.Grammar.{Level, Exprs, Block, Stmt, Simple, MaybeCondition, MaybePost, Spells, no_condition, a_condition, empty_post, a_post, while_loop, for_loop, for_empty, range_loop, assign_range, define_range}
 use Rattle.argot_spelling.specs.declared.post.Post.{Post}
 use Rattle.argot_spelling.specs.Posts.{posts}
-use Rattle.argot_spelling.specs.Reading.{The, Answer, Reader, ◌>>=◌, closed, put, is_kind, is_mark}
-use Rattle.argot_spelling.specs.StatementReader.{ending, put_empty, is_range, ranges, past_semicolon, opening_by, maybe_condition_by, maybe_post_by, loop_by, parts_by, range_by, looped_by, for_by}
-use Rattle.argot_spelling.proofs.TokenTests.{kind_is, has_mark, passes}
-use Rattle.argot_spelling.proofs.PostLaws.{closed_posts, put_posts, joined}
-use Rattle.argot_spelling.proofs.Holding.{Holds, none, given, bind, regroup, choose}
+use Rattle.argot_spelling.specs.Reading.{The, Reader, ◌>>=◌, closed, is_kind, is_mark}
+use Rattle.argot_spelling.specs.StatementReader.{put_empty, is_range, ranges, past_semicolon, opening_by, maybe_condition_by, maybe_post_by, loop_by, parts_by, range_by, looped_by, for_by}
+use Rattle.argot_spelling.proofs.TokenTests.{has_mark, passes}
+use Rattle.argot_spelling.proofs.PostLaws.{closed_posts, joined}
+use Rattle.argot_spelling.proofs.Holding.{Holds, given, bind, regroup, choose}
 use Rattle.argot_spelling.proofs.SoundReads.{Has, IsSound, node, nothing, then, last, must_semicolon}
 use Rattle.argot_spelling.proofs.SoundHeads.{ranges_on, HasOpening, opening_sound, put_empty_posts}
 

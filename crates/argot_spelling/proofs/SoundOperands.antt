@@ -1,11 +1,7 @@
 -- Operands and what goes on behind them, and lists of expressions, that are read are spelled.
-use Rattle.std.proofs.Common.{◌≡◌, ℕ, ◌+◌, ◌≤◌, List, [], ◌∷◌, ◌++◌, length, reverse, drop, Bool, true, false, ◌&&◌, cond, Option, Some, None, refl, sym, ap, ◌∙◌, subst, inl, inr, ⊎_elim, arith, length-append}
-use Rattle.std.specs.Prelude.{◌⊎◌, nat_le}
-use Rattle.std.proofs.lemmas.List.{append-nil}
-use Rattle.std.proofs.Math.Seq.{drop-append_seam}
-use Rattle.std.proofs.lemmas.Bool.{and_parts, leb-true, false≢true}
+use Rattle.std.proofs.Common.{◌≡◌, ℕ, ◌+◌, List, ◌++◌, length, Bool, true, false, ◌&&◌, Option, Some, refl, sym, ap, subst, inr}
+use Rattle.std.proofs.lemmas.Bool.{and_parts, false≢true}
 use Rattle.argot_tree.specs.declared.keyword.Keyword.TheVariants as words
-use Rattle.argot_tree.specs.declared.mark.Mark.{Mark}
 use Rattle.argot_tree.specs.declared.mark.Mark.TheVariants as marks
 use Rattle.argot_tree.specs.declared.node_kind.NodeKind.{NodeKind}
 use Rattle.argot_tree.specs.declared.node_kind.NodeKind.TheVariants as nodes
@@ -13,19 +9,17 @@ use Rattle.argot_tree.specs.declared.token.TokenKind.{TokenKind}
 use Rattle.argot_tree.specs.declared.token.TokenKind.TheVariants as kinds
 use Rattle.argot_tree.specs.declared.token.Token.{Token}
 use Rattle.argot_tree.specs.Forests.{Forest, leaf, beside, one}
-use Rattle.argot_tree.specs.TokensAt.{kind_at, level_at, unary_of, HasAt, HasMark, HasWord, HasUnary, Passes, Fails, MaybeComma, is_star, is_literal, begins_conversion, begins_composite}
-use Rattle.argot_tree.specs.Grammar.{Part, AnyType, OnlyType, Signature, Embedded, Level, Unary, Primary, Operand, Exprs, Either, Eithers, Elems, Items, Item, Value, Block, Spells, func_type, formed_type, only_pointer, unary_level, binary, unary, primary, operand, literal, name_use, parens, func_literal, composite, open_composite, bare_composite, conversion, selector, index, slice_all, slice_from, slice_to, slice_between, slice_to_max, slice_between_max, assertion, call_none, call, spread_call, last_expr, one_expr, either_expr, either_type, last_either, one_either, no_elems, elems, last_item, one_item, item, keyed_item, value_expr, value_elems}
+use Rattle.argot_tree.specs.TokensAt.{kind_at, HasAt, HasMark, HasWord, Passes, MaybeComma, is_star, is_literal, begins_conversion, begins_composite}
+use Rattle.argot_tree.specs.Grammar.{AnyType, OnlyType, Signature, Level, Primary, Operand, Exprs, Either, Eithers, Elems, Items, Item, Value, Block, Spells, func_type, formed_type, literal, name_use, parens, func_literal, composite, open_composite, bare_composite, conversion, selector, index, slice_all, slice_from, slice_to, slice_between, slice_to_max, slice_between_max, assertion, call_none, call, spread_call, last_expr, one_expr, last_either, one_either, no_elems, elems, last_item, one_item, item, keyed_item, value_expr, value_elems}
 use Rattle.argot_spelling.specs.declared.post.Post.{Post}
 use Rattle.argot_spelling.specs.Posts.{posts}
-use Rattle.argot_spelling.specs.Reading.{The, UnaryOr, PrimaryOr, OperandOr, Climb, Suffixes, MoreExprs, Answer, Reader, ◌>>=◌, closed, put, closing, is_at, is_word, is_mark, past, past_list, behind_comma, goes_on}
+use Rattle.argot_spelling.specs.Reading.{The, Suffixes, MoreExprs, Answer, Reader, ◌>>=◌, closed, put, closing, is_at, is_word, is_mark, past_list, behind_comma, goes_on}
 use Rattle.argot_spelling.specs.TypeReader.{named_type_by}
-use Rattle.argot_spelling.specs.ExpressionReader.{climbs, typed, recast, ending_with, arrowed, starred, stay_by, closing_since, with_kind, name_use_by, is_open_array, bracket_end, arguments_by, level_by, either_by, climb_by, unary_by, primary_by, converted_by, behind_type_by, behind_signature_by, func_by, type_operand_by, parens_by, open_array_by, braced_by, name_by, operand_by, dot_by, third_by, second_by, from_start_by, behind_first_by, bracket_by, call_by, suffix_by, suffixes_by, exprs_by, more_exprs_by, eithers_by, elems_by, items_by, item_by, value_by}
+use Rattle.argot_spelling.specs.ExpressionReader.{stay_by, name_use_by, is_open_array, bracket_end, converted_by, behind_type_by, behind_signature_by, parens_by, open_array_by, name_by, operand_by, dot_by, third_by, from_start_by, behind_first_by, bracket_by, call_by, suffix_by, suffixes_by, exprs_by, more_exprs_by, eithers_by, elems_by, items_by, item_by, value_by}
 use Rattle.argot_spelling.proofs.TokenTests.{has_at, has_word, has_mark, passes, fails}
 use Rattle.argot_spelling.proofs.PostLaws.{closed_posts, put_posts, joined}
-use Rattle.argot_spelling.proofs.Holding.{Holds, none, given, bind, regroup, try, weaken, choose, choose_then, each}
-use Rattle.argot_spelling.proofs.Roots.{HasRoot, typed_root, operand_no_type, unary_no_type, only_is_type}
-use Rattle.argot_spelling.proofs.Recasting.{IsRecast, recast_only}
-use Rattle.argot_spelling.proofs.SoundReads.{Has, HasOr, IsOr, IsOperand, Reads, IsSound, node, bare, nothing, then, last, must, must_list, maybe_comma}
+use Rattle.argot_spelling.proofs.Holding.{Holds, none, given, bind, regroup, try, weaken, choose, each}
+use Rattle.argot_spelling.proofs.SoundReads.{Has, HasOr, IsOperand, Reads, IsSound, node, bare, then, last, must, must_list, maybe_comma}
 use Rattle.argot_spelling.proofs.SoundTypes.{named_type_sound, goes_on_by}
 use Rattle.argot_spelling.proofs.SoundExpressions.{some_part}
 
@@ -56,9 +50,11 @@ converted_sound : {tokens : List Token} {rec : Reader} → IsSound tokens rec �
 converted_sound {tokens} {rec} g types b from base r x p s e =
     choose (is_mark tokens r.0 marks.OpenParen)
     (λ o. try (rec (The (Level 1 true)) (r.0 + 1) r.1 >>= past_list tokens marks.CloseParen) (argument_sound g (r.0 + 1) r.1)
-    (λ q k. given (one nodes.Conversion from q.0 (beside x k.0),
-    some_part types (subst (λ t. Spells tokens (Operand b) (one nodes.Conversion from t (beside x k.0)) from t) (sym k.6) (conversion p (any_type p s) (has_mark r.0 marks.OpenParen o) k.3 k.4 k.5)),
-    closed_posts nodes.Conversion from q.0 (length base) base q.1 (beside x k.0) (joined base r.1 q.1 x k.0 e k.7) refl))
+    (λ q k. given (
+      one nodes.Conversion from q.0 (beside x k.0),
+      some_part types (subst (λ t. Spells tokens (Operand b) (one nodes.Conversion from t (beside x k.0)) from t) (sym k.6) (conversion p (any_type p s) (has_mark r.0 marks.OpenParen o) k.3 k.4 k.5)),
+      closed_posts nodes.Conversion from q.0 (length base) base q.1 (beside x k.0) (joined base r.1 q.1 x k.0 e k.7) refl,
+    ))
     (stay_sound types b from base r x s e))
     (λ _. stay_sound types b from base r x s e)
 

@@ -1,15 +1,13 @@
 -- What each task promises of what it reads, and how the promises are put together.
-use Rattle.std.proofs.Common.{◌≡◌, ℕ, ◌+◌, List, [], ◌∷◌, ◌++◌, length, Bool, true, false, cond, Option, Some, None, refl, sym, ap, ◌∙◌, subst, inl, inr, arith}
+use Rattle.std.proofs.Common.{◌≡◌, ℕ, ◌+◌, List, ◌++◌, length, Bool, true, false, cond, Some, None, refl, sym, subst, arith}
 use Rattle.std.specs.Prelude.{◌⊎◌}
 use Rattle.std.proofs.lemmas.List.{append-nil}
-use Rattle.std.proofs.lemmas.Bool.{cond_both}
 use Rattle.argot_tree.specs.declared.mark.Mark.{Mark}
 use Rattle.argot_tree.specs.declared.mark.Mark.TheVariants as marks
 use Rattle.argot_tree.specs.declared.node_kind.NodeKind.{NodeKind}
 use Rattle.argot_tree.specs.declared.node_kind.NodeKind.TheVariants as nodes
-use Rattle.argot_tree.specs.declared.token.TokenKind.{TokenKind}
 use Rattle.argot_tree.specs.declared.token.Token.{Token}
-use Rattle.argot_tree.specs.Forests.{Forest, leaf, beside, one}
+use Rattle.argot_tree.specs.Forests.{Forest, leaf, one}
 use Rattle.argot_tree.specs.TokensAt.{kind_at, HasMark, Passes, is_semicolon, MaybeComma, left_out, comma}
 use Rattle.argot_tree.specs.Grammar.{Part, Level, Unary, Primary, Operand, OnlyType, Exprs, If, Stmt, Spells}
 use Rattle.argot_spelling.specs.declared.post.Post.{Post}
@@ -17,8 +15,8 @@ use Rattle.argot_spelling.specs.Posts.{posts}
 use Rattle.argot_spelling.specs.Reading.{Task, The, UnaryOr, PrimaryOr, OperandOr, Climb, Suffixes, MoreExprs, Ifs, Labels, Answer, Reader, ◌>>=◌, closed, put, closed_all, is_mark, past, past_list, behind_comma}
 use Rattle.argot_spelling.specs.StatementReader.{at_semicolon, past_semicolon}
 use Rattle.argot_spelling.proofs.TokenTests.{has_mark, passes}
-use Rattle.argot_spelling.proofs.PostLaws.{closed_posts, put_posts, joined}
-use Rattle.argot_spelling.proofs.Holding.{Holds, none, given, bind, weaken, choose_then}
+use Rattle.argot_spelling.proofs.PostLaws.{closed_posts, put_posts}
+use Rattle.argot_spelling.proofs.Holding.{Holds, none, bind, weaken, choose_then}
 
 -- a part was read from one place up to another, and its nodes were put behind the others
 abbrev pub Has : List Token → Part → ℕ → List Post → ℕ → List Post → Type 0

@@ -1,26 +1,23 @@
 -- Statements that are read are spelled.
-use Rattle.std.proofs.Common.{◌≡◌, ℕ, ◌+◌, ◌-◌, List, [], ◌∷◌, ◌++◌, length, Bool, true, false, ◌&&◌, cond, Option, Some, None, refl, sym, ap, ◌∙◌, subst, inl, inr, ⊎_elim, append_assoc}
-use Rattle.std.specs.Prelude.{◌⊎◌, ◌||◌, not}
-use Rattle.std.proofs.lemmas.List.{append-nil}
-use Rattle.std.proofs.lemmas.Bool.{cond_both, and_parts, false≢true}
+use Rattle.std.proofs.Common.{◌≡◌, ℕ, ◌+◌, List, ◌∷◌, ◌++◌, length, Bool, true, refl, sym, ap, ◌∙◌, subst, inl, inr, ⊎_elim}
+use Rattle.std.proofs.lemmas.Bool.{and_parts}
 use Rattle.argot_tree.specs.declared.keyword.Keyword.TheVariants as words
 use Rattle.argot_tree.specs.declared.mark.Mark.TheVariants as marks
 use Rattle.argot_tree.specs.declared.node_kind.NodeKind.{NodeKind}
 use Rattle.argot_tree.specs.declared.node_kind.NodeKind.TheVariants as nodes
-use Rattle.argot_tree.specs.declared.token.TokenKind.{TokenKind}
 use Rattle.argot_tree.specs.declared.token.TokenKind.TheVariants as kinds
 use Rattle.argot_tree.specs.declared.token.Token.{Token}
 use Rattle.argot_tree.specs.Forests.{Forest, leaf, beside, one}
-use Rattle.argot_tree.specs.TokensAt.{kind_at, HasAt, HasMark, HasWord, Passes, is_semicolon, is_op_assign}
-use Rattle.argot_tree.specs.Grammar.{Part, Level, Exprs, Eithers, Names, Decl, Block, Stmts, Stmt, Simple, MaybeLabel, Cases, Case, Comms, Comm, If, MaybeInit, MaybeElse, MaybeCondition, MaybePost, Spells, block, no_stmt, last_stmt, one_stmt, empty_stmt, decl_stmt, simple_stmt, labeled, labeled_empty, go_stmt, defer_stmt, return_none, return_values, break_stmt, continue_stmt, goto_stmt, fallthrough_stmt, block_stmt, if_stmt, no_label, a_label, expr_stmt, send, increment, decrement, assign, op_assign, define, last_expr, one_expr}
+use Rattle.argot_tree.specs.TokensAt.{kind_at, HasAt, HasMark, HasWord, is_semicolon, is_op_assign}
+use Rattle.argot_tree.specs.Grammar.{Part, Level, Exprs, Names, Block, Stmts, Stmt, Simple, MaybeLabel, Spells, block, no_stmt, last_stmt, one_stmt, empty_stmt, labeled, labeled_empty, return_none, return_values, goto_stmt, no_label, a_label, expr_stmt, send, increment, decrement, assign, op_assign, define, last_expr, one_expr}
 use Rattle.argot_spelling.specs.declared.post.Post.{Post}
 use Rattle.argot_spelling.specs.Posts.{posts}
-use Rattle.argot_spelling.specs.Reading.{The, Ifs, Labels, Answer, Reader, ◌>>=◌, closed, put, closing, closed_all, is_at, is_word, is_mark, past}
-use Rattle.argot_spelling.specs.StatementReader.{ending, put_empty, ends_stmt, ends_stmts, labels, defines, stmts_behind_by, label_by, labels_by, block_by, stmts_by, maybe_label_by, return_by, goto_by, more_by, assign_by, simple_behind_by, define_behind_by, simple_by, exprs_node_by, begins_assign}
-use Rattle.argot_spelling.proofs.TokenTests.{has_at, has_mark, has_word, passes}
+use Rattle.argot_spelling.specs.Reading.{The, Labels, Answer, Reader, ◌>>=◌, closed, put, closing, closed_all, is_at, is_mark}
+use Rattle.argot_spelling.specs.StatementReader.{ends_stmt, ends_stmts, labels, defines, stmts_behind_by, label_by, labels_by, block_by, stmts_by, maybe_label_by, return_by, goto_by, more_by, assign_by, simple_behind_by, define_behind_by, simple_by, exprs_node_by, begins_assign}
+use Rattle.argot_spelling.proofs.TokenTests.{has_at, has_mark, passes}
 use Rattle.argot_spelling.proofs.PostLaws.{closed_posts, put_posts, joined}
-use Rattle.argot_spelling.proofs.Holding.{Holds, none, given, bind, regroup, try, weaken, choose, choose_then}
-use Rattle.argot_spelling.proofs.SoundReads.{Has, Reads, IsLabeled, IsSound, node, bare, nothing, then, last, must, must_list, must_semicolon, before_semicolon}
+use Rattle.argot_spelling.proofs.Holding.{Holds, none, given, bind, regroup, weaken, choose}
+use Rattle.argot_spelling.proofs.SoundReads.{Has, Reads, IsLabeled, IsSound, node, bare, nothing, then, last, must}
 
 pub block_sound : {tokens : List Token} {rec : Reader} → IsSound tokens rec → (at : ℕ) (out : List Post) → Holds (Has tokens Block at out) (block_by tokens rec at out)
 block_sound {tokens} {rec} g at out =
@@ -60,8 +57,12 @@ label_sound {tokens} {rec} g begun at out e =
     let p = and_parts (is_at tokens at kinds.Name) (is_mark tokens (at + 1) marks.Colon) e in
     let named = one nodes.DeclName at (at + 1) leaf in
     weaken (rec (Labels ((at, length out) ∷ begun)) (at + 2) (put nodes.DeclName at (at + 1) out)) (g.kept (Labels ((at, length out) ∷ begun)) (at + 2) (put nodes.DeclName at (at + 1) out))
-    (λ to new k. (one nodes.Labeled at to (beside named k.0), labeled_is (has_at at kinds.Name p.0) (has_mark (at + 1) marks.Colon p.1) k.1, k.2
-    ∙ ap (closed_all nodes.Labeled begun to) (closed_posts nodes.Labeled at to (length out) out (put nodes.DeclName at (at + 1) out ++ posts k.0) (beside named k.0) (joined out (put nodes.DeclName at (at + 1) out) (put nodes.DeclName at (at + 1) out ++ posts k.0) named k.0 (put_posts nodes.DeclName at (at + 1) out) refl) refl)))
+    (λ to new k. (
+      one nodes.Labeled at to (beside named k.0),
+      labeled_is (has_at at kinds.Name p.0) (has_mark (at + 1) marks.Colon p.1) k.1,
+      k.2
+          ∙ ap (closed_all nodes.Labeled begun to) (closed_posts nodes.Labeled at to (length out) out (put nodes.DeclName at (at + 1) out ++ posts k.0) (beside named k.0) (joined out (put nodes.DeclName at (at + 1) out) (put nodes.DeclName at (at + 1) out ++ posts k.0) named k.0 (put_posts nodes.DeclName at (at + 1) out) refl) refl),
+    ))
 
 pub labels_sound : {tokens : List Token} {rec : Reader} → IsSound tokens rec → (begun : List (ℕ × ℕ)) (at : ℕ) (out : List Post) → Holds (Reads tokens (Labels begun) at out) (labels_by tokens rec begun at out)
 labels_sound {tokens} {rec} g begun at out =

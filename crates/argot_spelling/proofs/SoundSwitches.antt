@@ -1,33 +1,29 @@
 -- A `switch` that is read is spelled.
-use Rattle.std.proofs.Common.{◌≡◌, ℕ, ◌+◌, ◌-◌, ◌<◌, List, [], ◌∷◌, ◌++◌, length, Bool, true, false, ◌&&◌, cond, Option, Some, None, refl, sym, ap, ◌∙◌, subst, append_assoc, arith, length-append}
-use Rattle.std.specs.Prelude.{not, slice_get}
+use Rattle.std.proofs.Common.{◌≡◌, ℕ, ◌+◌, ◌-◌, List, [], ◌∷◌, ◌++◌, length, Bool, true, false, ◌&&◌, refl, sym, ap, ◌∙◌, subst, append_assoc, arith, length-append}
 use Rattle.std.specs.List.{remove}
-use Rattle.std.proofs.lemmas.Option.{slice_get-get_or}
 use Rattle.std.proofs.lemmas.List.{append-nil}
-use Rattle.std.proofs.Math.Seq.{get_or-append_seam}
-use Rattle.std.proofs.lemmas.List.Edits.{remove-append_left, remove-append_right}
-use Rattle.std.proofs.lemmas.Bool.{and_parts, false≢true}
+use Rattle.std.proofs.lemmas.List.Edits.{remove-append_right}
+use Rattle.std.proofs.lemmas.Bool.{and_parts}
 use Rattle.argot_tree.specs.declared.keyword.Keyword.TheVariants as words
 use Rattle.argot_tree.specs.declared.mark.Mark.TheVariants as marks
 use Rattle.argot_tree.specs.declared.node_kind.NodeKind.{NodeKind}
 use Rattle.argot_tree.specs.declared.node_kind.NodeKind.TheVariants as nodes
-use Rattle.argot_tree.specs.declared.token.TokenKind.{TokenKind}
 use Rattle.argot_tree.specs.declared.token.TokenKind.TheVariants as kinds
 use Rattle.argot_tree.specs.declared.token.Token.{Token}
-use Rattle.argot_tree.specs.Forests.{Forest, leaf, beside, one, size, last_token}
-use Rattle.argot_tree.specs.TokensAt.{kind_at, unary_of, HasAt, HasMark, HasWord, HasUnary, Passes, is_semicolon}
-use Rattle.argot_tree.specs.Grammar.{Part, Level, Unary, Primary, Exprs, Names, Stmt, Simple, Cases, MaybeInit, TypeGuard, Spells, unary_level, binary, unary, primary, last_name, define, no_init, empty_init, an_init, switch, type_switch, no_tag_expr, tag_expr, guard, named_guard}
+use Rattle.argot_tree.specs.Forests.{Forest, leaf, beside, one, last_token}
+use Rattle.argot_tree.specs.TokensAt.{kind_at, HasAt, HasMark, HasWord, is_semicolon}
+use Rattle.argot_tree.specs.Grammar.{Level, Primary, Exprs, Stmt, Simple, Cases, MaybeInit, Spells, last_name, define, no_init, empty_init, an_init, switch, type_switch, no_tag_expr, tag_expr, guard, named_guard}
 use Rattle.argot_spelling.specs.declared.post.Post.{Post}
 use Rattle.argot_spelling.specs.Posts.{posts}
-use Rattle.argot_spelling.specs.Reading.{The, Answer, Reader, ◌>>=◌, closed, put, is_at, is_word, is_mark, past}
-use Rattle.argot_spelling.specs.StatementReader.{ending, put_empty, is_operation, is_operation_post, is_primary, ranges, guards, more_by, opening_by, switched_by, tagged_by, named_guard_by, tag_by, init_by, defined_by, opened_switch_by, head_by}
-use Rattle.argot_spelling.proofs.TokenTests.{has_at, has_mark, has_word, passes}
+use Rattle.argot_spelling.specs.Reading.{The, Reader, ◌>>=◌, closed, put, is_at, is_mark}
+use Rattle.argot_spelling.specs.StatementReader.{ending, put_empty, is_primary, ranges, guards, more_by, opening_by, switched_by, tagged_by, named_guard_by, tag_by, init_by, defined_by, head_by}
+use Rattle.argot_spelling.proofs.TokenTests.{has_at, has_mark, passes}
 use Rattle.argot_spelling.proofs.PostLaws.{closed_posts, put_posts, joined}
 use Rattle.argot_spelling.proofs.Holding.{Holds, none, given, bind, regroup, choose}
 use Rattle.argot_spelling.proofs.Roots.{level_primary}
 use Rattle.argot_spelling.proofs.SoundReads.{Has, IsSound, then, must}
 use Rattle.argot_spelling.proofs.SoundStatements.{more_sound}
-use Rattle.argot_spelling.proofs.SoundHeads.{begins_body, body_no_ranges, guards_on, IsOpening, HasOpening, opening_sound, put_empty_posts}
+use Rattle.argot_spelling.proofs.SoundHeads.{begins_body, body_no_ranges, guards_on, opening_sound, put_empty_posts}
 
 -- an expression whose last node is no operation's is a primary one
 pub primary_of : {tokens : List Token} {k : ℕ} {b : Bool} {x : Forest} {from to : ℕ} (out new : List Post) → Spells tokens (Level k b) x from to → new ≡ out ++ posts x → is_primary new ≡ true → Spells tokens (Primary b) x from to
@@ -118,9 +114,11 @@ defined_sound {tokens} {rec} g from base r y w n d s er =
     (λ _. regroup (more_by tokens rec false r >>= ending nodes.Exprs (start + 2) (length base + 2)) _ _ (regroup (more_by tokens rec false r) _ _
     (bind (more_by tokens rec false r) (more_sound g false (start + 2) behind r y s er)
     (λ q k. init_sound g from base (q.0, closed nodes.Define start q.0 (length base) (closed nodes.Exprs (start + 2) q.0 (length base + 2) q.1)) w
-    (λ _. (one nodes.Define start q.0 (beside names (one nodes.Exprs (start + 2) q.0 k.0)),
-    subst (λ t. Spells tokens (Simple false) (one nodes.Define start q.0 (beside names (one nodes.Exprs t q.0 k.0))) start q.0) (sym next) (define (last_name n) d (subst (λ t. Spells tokens (Exprs false) k.0 t q.0) next k.1)),
-    closed_posts nodes.Define start q.0 (length base) base (closed nodes.Exprs (start + 2) q.0 (length base + 2) q.1) (beside names (one nodes.Exprs (start + 2) q.0 k.0)) (joined base behind (closed nodes.Exprs (start + 2) q.0 (length base + 2) q.1) names (one nodes.Exprs (start + 2) q.0 k.0) behind_is (closed_posts nodes.Exprs (start + 2) q.0 (length base + 2) behind q.1 k.0 k.2 mark_is)) refl))))))
+    (λ _. (
+      one nodes.Define start q.0 (beside names (one nodes.Exprs (start + 2) q.0 k.0)),
+      subst (λ t. Spells tokens (Simple false) (one nodes.Define start q.0 (beside names (one nodes.Exprs t q.0 k.0))) start q.0) (sym next) (define (last_name n) d (subst (λ t. Spells tokens (Exprs false) k.0 t q.0) next k.1)),
+      closed_posts nodes.Define start q.0 (length base) base (closed nodes.Exprs (start + 2) q.0 (length base + 2) q.1) (beside names (one nodes.Exprs (start + 2) q.0 k.0)) (joined base behind (closed nodes.Exprs (start + 2) q.0 (length base + 2) q.1) names (one nodes.Exprs (start + 2) q.0 k.0) behind_is (closed_posts nodes.Exprs (start + 2) q.0 (length base + 2) behind q.1 k.0 k.2 mark_is)) refl,
+    ))))))
 
 pub switch_sound : {tokens : List Token} {rec : Reader} → IsSound tokens rec → (at : ℕ) (out : List Post) → HasWord tokens at words.Switch → Holds (Has tokens Stmt at out) (head_by tokens rec at (at + 1) out)
 switch_sound {tokens} {rec} g at out w =

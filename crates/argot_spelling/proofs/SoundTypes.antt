@@ -1,27 +1,25 @@
 -- Types, signatures, parameters, fields and elements of interfaces that are read are spelled.
-use Rattle.std.proofs.Common.{◌≡◌, ℕ, ◌+◌, List, [], ◌∷◌, ◌++◌, length, Bool, true, false, ◌&&◌, cond, Option, Some, None, refl, sym, ap, ◌∙◌, subst, arith}
-use Rattle.std.proofs.lemmas.List.{append-nil}
+use Rattle.std.proofs.Common.{◌≡◌, ℕ, ◌+◌, List, ◌++◌, length, Bool, true, false, ◌&&◌, cond, Option, Some, refl, ap, ◌∙◌}
 use Rattle.std.proofs.lemmas.Bool.{and_parts, false≢true}
 use Rattle.argot_tree.specs.declared.keyword.Keyword.TheVariants as words
 use Rattle.argot_tree.specs.declared.mark.Mark.{Mark}
 use Rattle.argot_tree.specs.declared.mark.Mark.TheVariants as marks
-use Rattle.argot_tree.specs.declared.node_kind.NodeKind.{NodeKind}
 use Rattle.argot_tree.specs.declared.node_kind.NodeKind.TheVariants as nodes
 use Rattle.argot_tree.specs.declared.token.TokenKind.{TokenKind}
 use Rattle.argot_tree.specs.declared.token.TokenKind.TheVariants as kinds
 use Rattle.argot_tree.specs.declared.token.Token.{Token}
 use Rattle.argot_tree.specs.Forests.{Forest, leaf, beside, one}
-use Rattle.argot_tree.specs.TokensAt.{kind_at, HasAt, HasMark, HasWord, Passes, Fails, is_semicolon, is_text, is_star, is_arrow, is_open_paren, begins_type}
-use Rattle.argot_tree.specs.Grammar.{Part, AnyType, OnlyType, Signature, Params, Types, NamedList, Fields, Field, Embedded, MaybeTag, Elements, Element, Names, Level, Spells, last_name, one_name, no_result, results, result, no_params, params, named_params, last_param, one_param, variadic_param, last_named, one_named, lone_named, variadic_named, type_name, qualified_type, type_parens, pointer_type, array_type, slice_type, map_type, chan_type, send_type, receive_type, func_type, struct_type, interface_type, formed_type, no_field, last_field, one_field, named_field, embedded_field, embedded_pointer, embedded_name, embedded_qualified, no_tag, a_tag, no_element, last_element, one_element, method, embedded_type}
+use Rattle.argot_tree.specs.TokensAt.{kind_at, HasAt, HasMark, HasWord, Fails, is_semicolon, is_text, is_star, is_arrow, is_open_paren, begins_type}
+use Rattle.argot_tree.specs.Grammar.{AnyType, OnlyType, Signature, Params, Types, NamedList, Fields, Field, Embedded, MaybeTag, Elements, Element, Names, Level, Spells, last_name, one_name, no_result, results, result, no_params, params, named_params, last_param, one_param, variadic_param, last_named, one_named, lone_named, variadic_named, type_name, qualified_type, type_parens, pointer_type, array_type, slice_type, map_type, chan_type, send_type, receive_type, func_type, struct_type, interface_type, formed_type, no_field, last_field, one_field, named_field, embedded_field, embedded_pointer, embedded_name, embedded_qualified, no_tag, a_tag, no_element, last_element, one_element, method, embedded_type}
 use Rattle.argot_spelling.specs.declared.post.Post.{Post}
 use Rattle.argot_spelling.specs.Posts.{posts}
-use Rattle.argot_spelling.specs.Reading.{The, Answer, Reader, ◌>>=◌, closed, put, closing, is_kind, is_at, is_word, is_mark, past, past_list, goes_on, names_then}
-use Rattle.argot_spelling.specs.TypeReader.{begins_parameter, is_dotted, named_type_by, embedded_by, tag_by, type_parens_by, type_by, array_by, bracketed_by, map_by, chan_by, receive_by, struct_by, interface_by, formed_by, result_by, signature_by, listed_by, params_by, more_types_by, types_by, more_named_by, named_entry_by, named_list_by, names_by, named_field_by, field_by, fields_by, element_by, elements_by}
+use Rattle.argot_spelling.specs.Reading.{The, Reader, ◌>>=◌, closed, put, closing, is_kind, is_at, is_word, is_mark, past, goes_on, names_then}
+use Rattle.argot_spelling.specs.TypeReader.{begins_parameter, is_dotted, named_type_by, embedded_by, tag_by, type_by, array_by, bracketed_by, map_by, chan_by, receive_by, struct_by, interface_by, formed_by, signature_by, listed_by, params_by, types_by, named_entry_by, named_list_by, names_by, named_field_by, field_by, fields_by, element_by, elements_by}
 use Rattle.argot_spelling.proofs.TokenTests.{has_at, has_word, has_mark, passes, fails}
 use Rattle.argot_spelling.proofs.PostLaws.{closed_posts, put_posts, joined}
 use Rattle.argot_spelling.proofs.Holding.{Holds, none, given, bind, regroup, weaken, choose, choose_then}
-use Rattle.argot_spelling.proofs.SoundReads.{Has, IsSound, node, bare, nothing, then, last, must, must_list, behind_two}
-use Rattle.argot_spelling.proofs.SoundStatements.{HasNode, names_node_sound}
+use Rattle.argot_spelling.proofs.SoundReads.{Has, IsSound, node, bare, nothing, then, last, must, must_list}
+use Rattle.argot_spelling.proofs.SoundStatements.{names_node_sound}
 
 dotted : {tokens : List Token} (at : ℕ) → is_dotted tokens at ≡ true → HasMark tokens (at + 1) marks.Dot × HasAt tokens (at + 2) kinds.Name
 dotted {tokens} at e =

@@ -1,16 +1,15 @@
 -- How declarations are read: the tokens behind the declared names tell which kind of specification it is.
-use Rattle.std.specs.Prelude.{ℕ, ◌+◌, List, length, Bool, true, false, ◌&&◌, Option, Some, None, if◌then◌else◌}
+use Rattle.std.specs.Prelude.{ℕ, ◌+◌, List, Bool, true, ◌&&◌, Some, None, if◌then◌else◌}
 use Rattle.argot_tree.specs.declared.keyword.Keyword.TheVariants as words
 use Rattle.argot_tree.specs.declared.mark.Mark.TheVariants as marks
 use Rattle.argot_tree.specs.declared.node_kind.NodeKind.{NodeKind}
 use Rattle.argot_tree.specs.declared.node_kind.NodeKind.TheVariants as nodes
-use Rattle.argot_tree.specs.declared.token.TokenKind.{TokenKind}
 use Rattle.argot_tree.specs.declared.token.TokenKind.TheVariants as kinds
 use Rattle.argot_tree.specs.declared.token.Token.{Token}
 use Rattle.argot_tree.specs.TokensAt.{kind_at, is_semicolon, begins_type, follows_parameter}
 use Rattle.argot_tree.specs.Grammar.{Sort, Constant, Variable, TypeSort, AnyType, Exprs, Names, Declared, DeclaredList, MaybeTyped, MaybeValues, TypeParams}
 use Rattle.argot_spelling.specs.declared.post.Post.{Post}
-use Rattle.argot_spelling.specs.Reading.{The, Answer, Reader, ◌>>=◌, try_on, closed, put, closing, is_at, is_word, is_mark, past}
+use Rattle.argot_spelling.specs.Reading.{The, Answer, Reader, ◌>>=◌, try_on, put, closing, is_at, is_word, is_mark, past}
 
 -- the nodes of a group and of a lone declaration
 abbrev pub group_kind : Sort → NodeKind

@@ -10,7 +10,7 @@ use Rattle.argot_tree.specs.TokensAt.{kind_at, is_semicolon, is_text, begins_typ
 use Rattle.argot_tree.specs.Grammar.{Imports, Import, Specs, Spec, Tops, Top, Receiver, MaybeReceiver, TypeParams, MaybeTypeParams, Balanced, MaybeBody, Decl, Signature, AnyType, Block}
 use Rattle.argot_spelling.specs.declared.post.Post.{Post}
 use Rattle.argot_spelling.specs.Reading.{The, Answer, Reader, ◌>>=◌, closed, put, closing, is_at, is_word, is_mark, past, past_list}
-use Rattle.argot_spelling.specs.StatementReader.{ending, past_semicolon}
+use Rattle.argot_spelling.specs.StatementReader.{past_semicolon}
 
 -- no token stands there
 abbrev pub is_end : Option TokenKind → Bool
