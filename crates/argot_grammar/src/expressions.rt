@@ -111,7 +111,6 @@ fn climb(
     mark: usize,
     behind: usize,
 ) -> Result<usize, Memory>
-    requires { mark ≤ vec_len out.old.posts }
     ensures { IfOk result (λ to. read tokens.now steps (Climb lowest 9 bare from mark) behind out.old.posts.items ≡ Some (to, out.new.posts.items)) }
 {
     let mut at = behind;

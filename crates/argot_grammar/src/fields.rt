@@ -123,7 +123,7 @@ fn named_field(
 }
 
 // A list ends where its brace stands.
-fn closed_by_brace(tokens: &[Token], out: &mut Writer, at: usize, mark: usize) -> Option<usize>
+pub fn closed_by_brace(tokens: &[Token], out: &mut Writer, at: usize, mark: usize) -> Option<usize>
     ensures some { IfSome result (λ to. (is_mark tokens.now at CloseBrace ≡ true) × (to ≡ at) × (out.new.posts ≡ out.old.posts)) }
     ensures none { IfNone result ((is_mark tokens.now at CloseBrace ≡ false) × (out.new.posts.items ≡ take mark out.old.posts.items)) }
 {

@@ -6,10 +6,14 @@
 #![tactic(auto)]
 
 mod arrows;
+mod blocks;
+mod declarations;
 mod elements;
 mod expressions;
 mod fields;
+mod heads;
 mod linking;
+mod loops;
 mod nesting;
 mod operands;
 mod peek;
@@ -17,6 +21,7 @@ mod pending;
 mod signatures;
 mod statements;
 mod suffixes;
+mod switches;
 mod types;
 mod writer;
 

@@ -1,6 +1,9 @@
 // What stands at a place among the tokens.
 ghost use Rattle.std.specs.Prelude.{◌≡◌, ◌<◌, ◌+◌, ◌&&◌, length, drop, IsTrue, IfSome, Some};
-ghost use Rattle.argot_tree.specs.TokensAt.{kind_at, mark_level, level_at, unary_of, is_semicolon, is_literal, is_text, begins_type, begins_conversion, begins_composite};
+ghost use Rattle.argot_tree.specs.TokensAt.{kind_at, mark_level, level_at, unary_of, is_semicolon, is_literal, is_text, begins_type, begins_conversion, begins_composite, is_op_assign, follows_parameter, is_no_bracket};
+ghost use Rattle.argot_spelling.specs.StatementReader.{ends_stmt, ends_stmts, begins_clause, begins_assign, is_range, defines, ranges, guards, labels};
+ghost use Rattle.argot_spelling.specs.DeclarationReader.{is_generic};
+ghost use Rattle.argot_spelling.specs.FileReader.{opens_bracket};
 ghost use Rattle.argot_tree.specs.declared.token.TokenKind.TheVariants.{Name};
 ghost use Rattle.argot_spelling.specs.Reading.{word_number, mark_number, kind_number, is_kind, is_at, is_mark, is_word, behind_comma, goes_on, more_names, behind_names, names_then};
 ghost use Rattle.argot_spelling.specs.TypeReader.{begins_parameter, is_dotted};
@@ -401,4 +404,261 @@ pub fn unary_at(tokens: &[Token], at: usize) -> Option<NodeKind>
         },
         None => None,
     }
+}
+
+fn ends_stmt(kind: TokenKind) -> bool
+    ensures { result ≡ ends_stmt (Some kind) }
+{
+    match kind {
+        TokenKind::Mark(mark) => matches!(mark, Mark::Semicolon | Mark::CloseBrace),
+        TokenKind::Inserted => true,
+        _ => false,
+    }
+}
+
+/// Whether the end of a statement stands there.
+pub fn ends_stmt_at(tokens: &[Token], at: usize) -> bool
+    ensures value { result ≡ ends_stmt (kind_at tokens.now at) }
+    ensures within { IsTrue result → at < length tokens.now }
+{
+    match tokens.get(at) {
+        Some(token) => ends_stmt(token.kind),
+        None => false,
+    }
+}
+
+fn ends_stmts(kind: TokenKind) -> bool
+    ensures { result ≡ ends_stmts (Some kind) }
+{
+    match kind {
+        TokenKind::Word(word) => matches!(word, Keyword::Case | Keyword::Default),
+        TokenKind::Mark(mark) => matches!(mark, Mark::CloseBrace),
+        _ => false,
+    }
+}
+
+/// Whether the end of a list of statements stands there.
+pub fn ends_stmts_at(tokens: &[Token], at: usize) -> bool
+    ensures value { result ≡ ends_stmts (kind_at tokens.now at) }
+    ensures within { IsTrue result → at < length tokens.now }
+{
+    match tokens.get(at) {
+        Some(token) => ends_stmts(token.kind),
+        None => false,
+    }
+}
+
+fn begins_clause(kind: TokenKind) -> bool
+    ensures { result ≡ begins_clause (Some kind) }
+{
+    match kind {
+        TokenKind::Word(word) => matches!(word, Keyword::Case | Keyword::Default),
+        _ => false,
+    }
+}
+
+/// Whether the beginning of a clause stands there.
+pub fn clause_at(tokens: &[Token], at: usize) -> bool
+    ensures value { result ≡ begins_clause (kind_at tokens.now at) }
+    ensures within { IsTrue result → at < length tokens.now }
+{
+    match tokens.get(at) {
+        Some(token) => begins_clause(token.kind),
+        None => false,
+    }
+}
+
+fn is_op_assign(kind: TokenKind) -> bool
+    ensures { result ≡ is_op_assign (Some kind) }
+{
+    match kind {
+        TokenKind::Mark(mark) => matches!(
+            mark,
+            Mark::PlusAssign
+                | Mark::MinusAssign
+                | Mark::StarAssign
+                | Mark::SlashAssign
+                | Mark::PercentAssign
+                | Mark::AndAssign
+                | Mark::OrAssign
+                | Mark::XorAssign
+                | Mark::ShiftLeftAssign
+                | Mark::ShiftRightAssign
+                | Mark::AndNotAssign
+        ),
+        _ => false,
+    }
+}
+
+/// Whether an operator with `=` stands there.
+pub fn op_assign_at(tokens: &[Token], at: usize) -> bool
+    ensures value { result ≡ is_op_assign (kind_at tokens.now at) }
+    ensures within { IsTrue result → at < length tokens.now }
+{
+    match tokens.get(at) {
+        Some(token) => is_op_assign(token.kind),
+        None => false,
+    }
+}
+
+fn begins_assign(kind: TokenKind) -> bool
+    ensures { result ≡ begins_assign (Some kind) }
+{
+    match kind {
+        TokenKind::Mark(mark) => matches!(
+            mark,
+            Mark::Comma
+                | Mark::Assign
+                | Mark::PlusAssign
+                | Mark::MinusAssign
+                | Mark::StarAssign
+                | Mark::SlashAssign
+                | Mark::PercentAssign
+                | Mark::AndAssign
+                | Mark::OrAssign
+                | Mark::XorAssign
+                | Mark::ShiftLeftAssign
+                | Mark::ShiftRightAssign
+                | Mark::AndNotAssign
+        ),
+        _ => false,
+    }
+}
+
+/// Whether a comma or an operator that assigns stands there.
+pub fn assign_at(tokens: &[Token], at: usize) -> bool
+    ensures value { result ≡ begins_assign (kind_at tokens.now at) }
+    ensures within { IsTrue result → at < length tokens.now }
+{
+    match tokens.get(at) {
+        Some(token) => begins_assign(token.kind),
+        None => false,
+    }
+}
+
+fn is_range(kind: TokenKind) -> bool
+    ensures { result ≡ is_range (Some kind) }
+{
+    match kind {
+        TokenKind::Word(word) => matches!(word, Keyword::Range),
+        _ => false,
+    }
+}
+
+/// Whether the word `range` stands there.
+pub fn range_at(tokens: &[Token], at: usize) -> bool
+    ensures value { result ≡ is_range (kind_at tokens.now at) }
+    ensures within { IsTrue result → at < length tokens.now }
+{
+    match tokens.get(at) {
+        Some(token) => is_range(token.kind),
+        None => false,
+    }
+}
+
+fn follows_parameter(kind: TokenKind) -> bool
+    ensures { result ≡ follows_parameter (Some kind) }
+{
+    match kind {
+        TokenKind::Word(_) => true,
+        TokenKind::Mark(mark) => matches!(mark, Mark::Tilde | Mark::Comma),
+        TokenKind::Name => true,
+        _ => false,
+    }
+}
+
+/// Whether what follows the first name of type parameters stands there.
+pub fn parameter_at(tokens: &[Token], at: usize) -> bool
+    ensures value { result ≡ follows_parameter (kind_at tokens.now at) }
+    ensures within { IsTrue result → at < length tokens.now }
+{
+    match tokens.get(at) {
+        Some(token) => follows_parameter(token.kind),
+        None => false,
+    }
+}
+
+fn is_no_bracket(kind: TokenKind) -> bool
+    ensures { result ≡ is_no_bracket (Some kind) }
+{
+    match kind {
+        TokenKind::Mark(mark) => !matches!(
+            mark,
+            Mark::OpenParen
+                | Mark::CloseParen
+                | Mark::OpenBracket
+                | Mark::CloseBracket
+                | Mark::OpenBrace
+                | Mark::CloseBrace
+        ),
+        _ => true,
+    }
+}
+
+/// Whether a token that is no bracket stands there.
+pub fn no_bracket_at(tokens: &[Token], at: usize) -> bool
+    ensures value { result ≡ is_no_bracket (kind_at tokens.now at) }
+    ensures within { IsTrue result → at < length tokens.now }
+{
+    match tokens.get(at) {
+        Some(token) => is_no_bracket(token.kind),
+        None => false,
+    }
+}
+
+/// Whether names and `:=` stand there, and not before `range`.
+pub fn defines(tokens: &[Token], at: usize) -> bool
+    ensures { result ≡ defines tokens.now at }
+{
+    if !is_name(tokens, at) {
+        return false;
+    }
+    let behind = behind_names(tokens, at);
+    is_mark(tokens, behind, Mark::Define) && !range_at(tokens, behind + 1)
+}
+
+/// Whether `= range` or `:= range` stands there.
+pub fn ranges(tokens: &[Token], at: usize) -> bool
+    ensures value { result ≡ ranges tokens.now at }
+    ensures within { IsTrue result → at + 1 < length tokens.now }
+{
+    (is_mark(tokens, at, Mark::Assign) || is_mark(tokens, at, Mark::Define))
+        && range_at(tokens, at + 1)
+}
+
+/// Whether `.(type)` stands there.
+pub fn guards(tokens: &[Token], at: usize) -> bool
+    ensures value { result ≡ guards tokens.now at }
+    ensures within { IsTrue result → at + 3 < length tokens.now }
+{
+    is_mark(tokens, at, Mark::Dot)
+        && (is_mark(tokens, at + 1, Mark::OpenParen)
+            && (is_word(tokens, at + 2, Keyword::TypeWord)
+                && is_mark(tokens, at + 3, Mark::CloseParen)))
+}
+
+/// Whether a label stands there.
+pub fn is_label(tokens: &[Token], at: usize) -> bool
+    ensures value { result ≡ labels tokens.now at }
+    ensures within { IsTrue result → at + 1 < length tokens.now }
+{
+    is_name(tokens, at) && is_mark(tokens, at + 1, Mark::Colon)
+}
+
+/// Whether type parameters stand behind the name of a declared type.
+pub fn is_generic(tokens: &[Token], at: usize) -> bool
+    requires { at < length tokens.now }
+    ensures value { result ≡ is_generic tokens.now at }
+    ensures within { IsTrue result → at + 3 < length tokens.now }
+{
+    is_mark(tokens, at + 1, Mark::OpenBracket)
+        && (is_name(tokens, at + 2) && parameter_at(tokens, at + 3))
+}
+
+/// Whether a bracket opens there.
+pub fn opens_bracket(tokens: &[Token], at: usize) -> bool
+    ensures { result ≡ opens_bracket tokens.now at }
+{
+    is_mark(tokens, at, Mark::OpenParen)
+        || (is_mark(tokens, at, Mark::OpenBracket) || is_mark(tokens, at, Mark::OpenBrace))
 }

@@ -1,5 +1,5 @@
 // What goes on behind an operand: selectors, indexes, slices, type assertions and calls.
-#![tactic(auto, using(argot_spelling::proofs::Steps::read_more, argot_spelling::proofs::Steps::read_none, argot_spelling::proofs::Grows::kept, argot_spelling::proofs::Grows::kept_suffix))]
+#![tactic(auto, using(argot_spelling::proofs::Steps::read_more, argot_spelling::proofs::Steps::read_none, argot_spelling::proofs::Grows::kept))]
 
 ghost use Rattle.std.specs.Prelude.{◌≡◌, ◌<◌, ◌≤◌, ◌+◌, ◌-◌, length, IfOk, OnOk, IfSome, IfNone, Option, Some, None, vec_len, take, Bool, true, false};
 ghost use Rattle.argot_tree.specs.declared.node_kind.NodeKind.TheVariants as nodes;
@@ -24,7 +24,6 @@ pub fn suffixes(
     mark: usize,
     behind: usize,
 ) -> Result<usize, Memory>
-    requires { mark ≤ vec_len out.old.posts }
     ensures { IfOk result (λ to. read tokens.now steps (Suffixes from mark) behind out.old.posts.items ≡ Some (to, out.new.posts.items)) }
 {
     let mut at = behind;
@@ -48,7 +47,6 @@ fn suffix(
     mark: usize,
     at: usize,
 ) -> Result<Option<usize>, Memory>
-    requires { mark ≤ vec_len out.old.posts }
     ensures { IfOk result (λ r. Gives out.old.posts.items r out.new.posts.items (suffix_by tokens.now (read tokens.now fuel) from mark at out.old.posts.items)) }
 {
     if is_mark(tokens, at, Mark::Dot) {
@@ -72,7 +70,7 @@ fn dot(
     mark: usize,
     at: usize,
 ) -> Result<Option<usize>, Memory>
-    requires { (at < length tokens.now) × (mark ≤ vec_len out.old.posts) }
+    requires { at < length tokens.now }
     ensures { IfOk result (λ r. Gives out.old.posts.items r out.new.posts.items (dot_by tokens.now (read tokens.now fuel) from mark at out.old.posts.items)) }
 {
     if is_name(tokens, at + 1) {
@@ -105,7 +103,6 @@ fn end_bracket(
     begun: usize,
     at: usize,
 ) -> Result<Option<usize>, Memory>
-    requires { (mark ≤ begun) × (begun ≤ vec_len out.old.posts) }
     ensures { IfOk result (λ r. Settles begun out.old.posts.items r out.new.posts.items (bracket_end tokens.now kind from mark (at, out.old.posts.items))) }
 {
     let Some(to) = expect(tokens, out, at, Mark::CloseBracket, begun) else {
@@ -127,7 +124,7 @@ fn third(
     begun: usize,
     at: usize,
 ) -> Result<Option<usize>, Memory>
-    requires { (at < length tokens.now) × (mark ≤ begun) × (begun ≤ vec_len out.old.posts) }
+    requires { at < length tokens.now }
     ensures { IfOk result (λ r. Settles begun out.old.posts.items r out.new.posts.items (third_by tokens.now (read tokens.now fuel) kind from mark (at, out.old.posts.items))) }
 {
     let Some(to) = level(tokens, out, fuel, 1, true, at + 1)? else {
@@ -150,7 +147,6 @@ fn second(
     begun: usize,
     at: usize,
 ) -> Result<Option<usize>, Memory>
-    requires { (mark ≤ begun) × (begun ≤ vec_len out.old.posts) }
     ensures { IfOk result (λ r. Settles begun out.old.posts.items r out.new.posts.items (second_by tokens.now (read tokens.now fuel) kind with_max from mark (at, out.old.posts.items))) }
 {
     if is_mark(tokens, at, Mark::Colon) {
@@ -169,7 +165,7 @@ fn from_start(
     mark: usize,
     at: usize,
 ) -> Result<Option<usize>, Memory>
-    requires { (at + 1 < length tokens.now) × (mark ≤ vec_len out.old.posts) }
+    requires { at + 1 < length tokens.now }
     ensures { IfOk result (λ r. Gives out.old.posts.items r out.new.posts.items (from_start_by tokens.now (read tokens.now fuel) from mark at out.old.posts.items)) }
 {
     if is_mark(tokens, at + 2, Mark::CloseBracket) {
@@ -204,7 +200,6 @@ fn behind_first(
     begun: usize,
     at: usize,
 ) -> Result<Option<usize>, Memory>
-    requires { (mark ≤ begun) × (begun ≤ vec_len out.old.posts) }
     ensures { IfOk result (λ r. Settles begun out.old.posts.items r out.new.posts.items (behind_first_by tokens.now (read tokens.now fuel) from mark (at, out.old.posts.items))) }
 {
     if !is_mark(tokens, at, Mark::Colon) {
@@ -241,7 +236,7 @@ fn bracket(
     mark: usize,
     at: usize,
 ) -> Result<Option<usize>, Memory>
-    requires { (at < length tokens.now) × (mark ≤ vec_len out.old.posts) }
+    requires { at < length tokens.now }
     ensures { IfOk result (λ r. Gives out.old.posts.items r out.new.posts.items (bracket_by tokens.now (read tokens.now fuel) from mark at out.old.posts.items)) }
 {
     if is_mark(tokens, at + 1, Mark::Colon) {
@@ -263,7 +258,7 @@ fn call(
     mark: usize,
     at: usize,
 ) -> Result<Option<usize>, Memory>
-    requires { (at < length tokens.now) × (mark ≤ vec_len out.old.posts) }
+    requires { at < length tokens.now }
     ensures { IfOk result (λ r. Gives out.old.posts.items r out.new.posts.items (call_by tokens.now (read tokens.now fuel) from mark at out.old.posts.items)) }
 {
     if is_mark(tokens, at + 1, Mark::CloseParen) {
@@ -286,7 +281,6 @@ fn end_arguments(
     begun: usize,
     at: usize,
 ) -> Result<Option<usize>, Memory>
-    requires { (mark ≤ begun) × (begun ≤ vec_len out.old.posts) }
     ensures { IfOk result (λ r. Settles begun out.old.posts.items r out.new.posts.items (arguments_by tokens.now from mark (at, out.old.posts.items))) }
 {
     if is_mark(tokens, at, Mark::Ellipsis) {

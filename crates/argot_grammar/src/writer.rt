@@ -1,16 +1,18 @@
 // The nodes that are written behind their children.
-ghost use Rattle.std.specs.Prelude.{◌≡◌, ◌≤◌, ◌+◌, length, vec_len, take, IfOk, OnOk, IfSome, IfNone, Option, Some, None, Bool, true, false, IsTrue};
+ghost use Rattle.std.specs.Prelude.{◌≡◌, ◌≤◌, ◌+◌, length, vec_len, take, reverse, IfOk, OnOk, IfSome, IfNone, Option, Some, None, Bool, true, false, IsTrue};
 ghost use Rattle.argot_tree.specs.Forests.{last_token};
-ghost use Rattle.argot_spelling.specs.Reading.{closed, put, is_mark, behind_comma};
+ghost use Rattle.argot_spelling.specs.Reading.{closed, closed_all, put, is_mark, behind_comma};
 
 use crate::peek::{behind_comma, is_mark};
 use argot_spelling::Post;
 use argot_text::Memory;
 use argot_tree::{Mark, NodeKind, Token};
+use std::alloc::Global;
 
 /// The nodes so far, and the furthest token at which one that is needed was missing.
 #[derive(Drop)]
 pub struct Writer {
+    pub alloc: Global,
     pub posts: Vec<Post>,
     pub furthest: usize,
 }
@@ -43,10 +45,9 @@ pub fn close(
     to: usize,
     mark: usize,
 ) -> Result<(), Memory>
-    requires { mark ≤ vec_len out.old.posts }
     ensures { OnOk result (out.new.posts.items ≡ closed kind from to mark out.old.posts.items) }
 {
-    let size = narrow(out.posts.len() - mark + 1)?;
+    let size = narrow((out.posts.len() + 1).saturating_sub(mark))?;
     let token = narrow(from)?;
     let last = narrow(last_token(from, to))?;
     out.posts.push(Post {
@@ -55,6 +56,22 @@ pub fn close(
         last,
         size,
     })?;
+    Ok(())
+}
+
+/// A node over each of these, the last of them the innermost.
+pub fn close_all(
+    out: &mut Writer,
+    kind: NodeKind,
+    begun: Vec<(usize, usize)>,
+    to: usize,
+) -> Result<(), Memory>
+    ensures { OnOk result (out.new.posts.items ≡ closed_all kind (reverse begun.items) to out.old.posts.items) }
+{
+    let mut begun = begun;
+    while let Some((from, mark)) = begun.pop() {
+        close(out, kind, from, to, mark)?;
+    }
     Ok(())
 }
 

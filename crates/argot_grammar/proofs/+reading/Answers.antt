@@ -44,12 +44,12 @@ pub signatures::named_params-loop-fuel-preserved : goal.signatures::named_params
 signatures::named_params-loop-fuel-preserved t c = record {
   reads = grind (arith, common_steps, read_more);
   kept =
-    let m = c.len-mark.result in
-    let named = c.put.new.out.posts.items in
-    let typed = c.any_type-in-loop-fuel.new.out.posts.items in
-    let front : take m named ≡ c.args.out.now.posts.items = grind (arith, common_steps) in
-    let shown : take m typed ≡ c.args.out.now.posts.items = through m c.args.out.now.posts.items named typed (grind (arith, common_steps)) (grind (arith, common_steps, kept)) front in
-    through m c.args.out.now.posts.items typed c.close-in-loop-fuel.new.out.posts.items (grind (arith, common_steps, kept)) (grind (arith, common_steps)) shown;
+      let m = c.len-mark.result in
+      let named = c.put.new.out.posts.items in
+      let typed = c.any_type-in-loop-fuel.new.out.posts.items in
+      let front : take m named ≡ c.args.out.now.posts.items = grind (arith, common_steps) in
+      let shown : take m typed ≡ c.args.out.now.posts.items = through m c.args.out.now.posts.items named typed (grind (arith, common_steps)) (grind (arith, common_steps, kept)) front in
+      through m c.args.out.now.posts.items typed c.close-in-loop-fuel.new.out.posts.items (grind (arith, common_steps, kept)) (grind (arith, common_steps)) shown;
   fewer = omega arith;
 }
 
