@@ -61,14 +61,16 @@ pub spec_sound : {tokens : List Token} (at : ℕ) (out : List Post) → Holds (H
 spec_sound {tokens} at out =
     choose (is_text (kind_at tokens at))
     (λ e. given (node nodes.Spec at out (spec (passes e)) (put_posts nodes.ImportPath at (at + 1) out)))
-    (λ _. choose (is_text (kind_at tokens (at + 1)))
-    (λ t. choose (is_mark tokens at marks.Dot)
-    (λ e. given (node nodes.DotSpec at out (dot_spec (has_mark at marks.Dot e) (passes t)) (put_posts nodes.ImportPath (at + 1) (at + 2) out)))
-    (λ _. choose (is_at tokens at kinds.Name)
-    (λ e. given (node nodes.NamedSpec at out (named_spec (has_at at kinds.Name e) (passes t))
-    (joined out (put nodes.DeclName at (at + 1) out) (put nodes.ImportPath (at + 1) (at + 2) (put nodes.DeclName at (at + 1) out)) (one nodes.DeclName at (at + 1) leaf) (one nodes.ImportPath (at + 1) (at + 2) leaf) (put_posts nodes.DeclName at (at + 1) out) (put_posts nodes.ImportPath (at + 1) (at + 2) (put nodes.DeclName at (at + 1) out)))))
-    (λ _. none)))
+    (λ _. choose (is_mark tokens at marks.Dot)
+    (λ e. choose (is_text (kind_at tokens (at + 1)))
+    (λ t. given (node nodes.DotSpec at out (dot_spec (has_mark at marks.Dot e) (passes t)) (put_posts nodes.ImportPath (at + 1) (at + 2) out)))
     (λ _. none))
+    (λ _. choose (is_at tokens at kinds.Name)
+    (λ e. choose (is_text (kind_at tokens (at + 1)))
+    (λ t. given (node nodes.NamedSpec at out (named_spec (has_at at kinds.Name e) (passes t))
+    (joined out (put nodes.DeclName at (at + 1) out) (put nodes.ImportPath (at + 1) (at + 2) (put nodes.DeclName at (at + 1) out)) (one nodes.DeclName at (at + 1) leaf) (one nodes.ImportPath (at + 1) (at + 2) leaf) (put_posts nodes.DeclName at (at + 1) out) (put_posts nodes.ImportPath (at + 1) (at + 2) (put nodes.DeclName at (at + 1) out)))))
+    (λ _. none))
+    (λ _. none)))
 
 pub tops_sound : {tokens : List Token} {rec : Reader} → IsSound tokens rec → (at : ℕ) (out : List Post) → Holds (Has tokens Tops at out) (tops_by tokens rec at out)
 tops_sound {tokens} {rec} g at out =

@@ -17,11 +17,16 @@ abbrev pub is_end : Option TokenKind → Bool
 is_end None = true
 is_end (Some kind) = false
 
+-- behind the package clause, with its name
+abbrev pub file_parts_by : Reader → ℕ → List Post → Answer
+file_parts_by rec at out =
+    (rec (The Imports) (at + 3) (put nodes.DeclName (at + 1) (at + 2) out) >>= λ r. rec (The Tops) r.0 r.1) >>= closing nodes.File at out
+
 module _ (tokens : List Token) where
   abbrev pub file_by : Reader → ℕ → List Post → Answer
   file_by rec at out =
       if is_word tokens at words.Package && (is_at tokens (at + 1) kinds.Name && is_semicolon (kind_at tokens (at + 2)))
-      then (rec (The Imports) (at + 3) (put nodes.DeclName (at + 1) (at + 2) out) >>= λ r. rec (The Tops) r.0 r.1) >>= closing nodes.File at out
+      then file_parts_by rec at out
       else None
 
   abbrev pub imports_by : Reader → ℕ → List Post → Answer
@@ -47,15 +52,25 @@ module _ (tokens : List Token) where
   specs_by rec at out =
       if is_mark tokens at marks.CloseParen then Some (at, out) else (rec (The Spec) at out >>= specs_behind_by rec)
 
+  -- a path with a point before it, and one with a name
+  abbrev pub dot_spec_by : ℕ → List Post → Answer
+  dot_spec_by at out =
+      if is_text (kind_at tokens (at + 1))
+      then Some (at + 2, closed nodes.DotSpec at (at + 2) (length out) (put nodes.ImportPath (at + 1) (at + 2) out))
+      else None
+
+  abbrev pub named_spec_by : ℕ → List Post → Answer
+  named_spec_by at out =
+      if is_text (kind_at tokens (at + 1))
+      then Some (at + 2, closed nodes.NamedSpec at (at + 2) (length out) (put nodes.ImportPath (at + 1) (at + 2) (put nodes.DeclName at (at + 1) out)))
+      else None
+
   abbrev pub spec_by : ℕ → List Post → Answer
   spec_by at out =
       if is_text (kind_at tokens at) then Some (at + 1, closed nodes.Spec at (at + 1) (length out) (put nodes.ImportPath at (at + 1) out))
-      else (if is_text (kind_at tokens (at + 1))
-      then (if is_mark tokens at marks.Dot then Some (at + 2, closed nodes.DotSpec at (at + 2) (length out) (put nodes.ImportPath (at + 1) (at + 2) out))
-      else (if is_at tokens at kinds.Name
-      then Some (at + 2, closed nodes.NamedSpec at (at + 2) (length out) (put nodes.ImportPath (at + 1) (at + 2) (put nodes.DeclName at (at + 1) out)))
+      else (if is_mark tokens at marks.Dot then dot_spec_by at out
+      else (if is_at tokens at kinds.Name then named_spec_by at out
       else None))
-      else None)
 
   abbrev pub tops_by : Reader → ℕ → List Post → Answer
   tops_by rec at out =
@@ -69,21 +84,29 @@ module _ (tokens : List Token) where
       then (((rec (The MaybeTypeParams) (r.0 + 1) (put nodes.DeclName r.0 (r.0 + 1) r.1) >>= λ q. rec (The Signature) q.0 q.1) >>= λ q. rec (The MaybeBody) q.0 q.1) >>= closing nodes.FuncDecl at out)
       else None
 
+  abbrev pub func_decl_by : Reader → ℕ → List Post → Answer
+  func_decl_by rec at out = rec (The MaybeReceiver) (at + 1) out >>= func_by rec at out
+
   abbrev pub top_by : Reader → ℕ → List Post → Answer
-  top_by rec at out =
-      if is_word tokens at words.Func then rec (The MaybeReceiver) (at + 1) out >>= func_by rec at out
-      else rec (The Decl) at out
+  top_by rec at out = if is_word tokens at words.Func then func_decl_by rec at out else rec (The Decl) at out
 
   abbrev pub maybe_receiver_by : Reader → ℕ → List Post → Answer
   maybe_receiver_by rec at out = if is_mark tokens at marks.OpenParen then rec (The Receiver) at out else Some (at, out)
+
+  abbrev pub named_receiver_by : Reader → ℕ → List Post → Answer
+  named_receiver_by rec at out =
+      ((rec (The AnyType) (at + 2) (put nodes.DeclName (at + 1) (at + 2) out) >>= closing nodes.NamedParam (at + 1) out) >>= past_list tokens marks.CloseParen) >>= closing nodes.NamedParams at out
+
+  abbrev pub bare_receiver_by : Reader → ℕ → List Post → Answer
+  bare_receiver_by rec at out =
+      ((rec (The AnyType) (at + 1) out >>= closing nodes.Param (at + 1) out) >>= past_list tokens marks.CloseParen) >>= closing nodes.Params at out
 
   -- a receiver has a name exactly where a type begins behind its first token
   abbrev pub receiver_by : Reader → ℕ → List Post → Answer
   receiver_by rec at out =
       if is_mark tokens at marks.OpenParen
-      then (if is_at tokens (at + 1) kinds.Name && begins_type (kind_at tokens (at + 2))
-      then ((rec (The AnyType) (at + 2) (put nodes.DeclName (at + 1) (at + 2) out) >>= closing nodes.NamedParam (at + 1) out) >>= past_list tokens marks.CloseParen) >>= closing nodes.NamedParams at out
-      else (((rec (The AnyType) (at + 1) out >>= closing nodes.Param (at + 1) out) >>= past_list tokens marks.CloseParen) >>= closing nodes.Params at out))
+      then (if is_at tokens (at + 1) kinds.Name && begins_type (kind_at tokens (at + 2)) then named_receiver_by rec at out
+      else bare_receiver_by rec at out)
       else None
 
   abbrev pub maybe_type_params_by : Reader → ℕ → List Post → Answer
