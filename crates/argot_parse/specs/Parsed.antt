@@ -11,6 +11,10 @@ use Rattle.argot_parse.specs.declared.parsing.ParseFault.TheVariants as faults
 abbrev pub SpellsNoTree : List Token → Type 0
 SpellsNoTree tokens = (tree : Tree) → SpellsTree tree tokens → ⊥
 
+abbrev pub IsSyntax : ParseFault → Type 0
+IsSyntax (faults.Syntax token) = Unit {0}
+IsSyntax _ = ⊥
+
 -- a token is nested too deeply, and it is the first; or none is, and no tree spells the tokens
 abbrev pub IsUnparsed : List Token → ParseFault → Type 0
 IsUnparsed tokens (faults.Syntax token) = IsShallow tokens × SpellsNoTree tokens

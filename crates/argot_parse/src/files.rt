@@ -5,7 +5,7 @@ ghost use Rattle.std.specs.Prelude.{◌≡◌, ◌<◌, ◌≤◌, ◌+◌, ◌-
 ghost use Rattle.argot_tree.specs.TokensAt.{kind_at};
 ghost use Rattle.argot_tree.specs.Grammar.{File, Tops, Top, MaybeTypeParams, MaybeBody};
 ghost use Rattle.argot_spelling.specs.Reading.{The, Gives, closed, put};
-ghost use Rattle.argot_spelling.specs.FileReader.{is_end, file_parts_by, func_decl_by};
+ghost use Rattle.argot_spelling.specs.FileReader.{is_end, file_parts_by, func_parts_by, func_decl_by};
 ghost use Rattle.argot_spelling.specs.Reader.{read};
 
 use crate::imports::imports;
@@ -146,8 +146,25 @@ fn func_decl(
         return Ok(None);
     }
     put(out, NodeKind::DeclName, named, named + 1)?;
-    let Some(shown) = maybe_type_params(tokens, out, fuel, named + 1)? else {
+    let Some(to) = func_parts(tokens, out, fuel, named + 1)? else {
         undo(out, mark);
+        return Ok(None);
+    };
+    close(out, NodeKind::FuncDecl, at, to, mark)?;
+    Ok(Some(to))
+}
+
+// What stands behind a function's name.
+fn func_parts(
+    tokens: &[Token],
+    out: &mut Writer,
+    fuel: usize,
+    at: usize,
+) -> Result<Option<usize>, Memory>
+    ensures { IfOk result (λ r. Gives out.old.posts.items r out.new.posts.items (func_parts_by (read tokens.now fuel) at out.old.posts.items)) }
+{
+    let mark = out.posts.len();
+    let Some(shown) = maybe_type_params(tokens, out, fuel, at)? else {
         return Ok(None);
     };
     let Some(signed) = signature(tokens, out, fuel, shown)? else {
@@ -158,7 +175,6 @@ fn func_decl(
         undo(out, mark);
         return Ok(None);
     };
-    close(out, NodeKind::FuncDecl, at, to, mark)?;
     Ok(Some(to))
 }
 

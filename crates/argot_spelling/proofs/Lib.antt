@@ -7,6 +7,7 @@ pub mod GrowingStatements
 pub mod GrowingDeclarations
 pub mod GrowingFiles
 pub mod Grows
+pub mod FileGrows
 pub mod TokenTests
 pub mod PostLaws
 pub mod Holding

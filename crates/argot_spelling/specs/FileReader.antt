@@ -22,6 +22,11 @@ abbrev pub file_parts_by : Reader → ℕ → List Post → Answer
 file_parts_by rec at out =
     (rec (The Imports) (at + 3) (put nodes.DeclName (at + 1) (at + 2) out) >>= λ r. rec (The Tops) r.0 r.1) >>= closing nodes.File at out
 
+-- behind a function's name
+abbrev pub func_parts_by : Reader → ℕ → List Post → Answer
+func_parts_by rec at out =
+    (rec (The MaybeTypeParams) at out >>= λ q. rec (The Signature) q.0 q.1) >>= λ q. rec (The MaybeBody) q.0 q.1
+
 module _ (tokens : List Token) where
   abbrev pub file_by : Reader → ℕ → List Post → Answer
   file_by rec at out =
@@ -81,7 +86,7 @@ module _ (tokens : List Token) where
   abbrev pub func_by : Reader → ℕ → List Post → ℕ × List Post → Answer
   func_by rec at out r =
       if is_at tokens r.0 kinds.Name
-      then (((rec (The MaybeTypeParams) (r.0 + 1) (put nodes.DeclName r.0 (r.0 + 1) r.1) >>= λ q. rec (The Signature) q.0 q.1) >>= λ q. rec (The MaybeBody) q.0 q.1) >>= closing nodes.FuncDecl at out)
+      then func_parts_by rec (r.0 + 1) (put nodes.DeclName r.0 (r.0 + 1) r.1) >>= closing nodes.FuncDecl at out
       else None
 
   abbrev pub func_decl_by : Reader → ℕ → List Post → Answer
