@@ -7,3 +7,6 @@ pub mod Roots
 pub mod TypeParts
 pub mod OnlyTypes
 pub mod Arrows
+pub mod NameRuns
+pub mod Lists
+pub mod Signatures
