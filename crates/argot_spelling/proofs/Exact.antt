@@ -10,3 +10,4 @@ pub mod Arrows
 pub mod NameRuns
 pub mod Lists
 pub mod Signatures
+pub mod Members
