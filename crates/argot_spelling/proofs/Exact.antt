@@ -11,3 +11,4 @@ pub mod NameRuns
 pub mod Lists
 pub mod Signatures
 pub mod Members
+pub mod Levels
