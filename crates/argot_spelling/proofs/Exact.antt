@@ -12,3 +12,4 @@ pub mod Lists
 pub mod Signatures
 pub mod Members
 pub mod Levels
+pub mod Suffixes
