@@ -13,3 +13,4 @@ pub mod Signatures
 pub mod Members
 pub mod Levels
 pub mod Suffixes
+pub mod Operands

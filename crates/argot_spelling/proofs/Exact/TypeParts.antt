@@ -37,7 +37,7 @@ conversion_unary (Some (kinds.Word words.Struct)) h = refl
 conversion_unary (Some (kinds.Word words.Interface)) h = refl
 conversion_unary _ h = absurd (false≢true h)
 
-conversion_literal : (o : Option TokenKind) → begins_conversion o ≡ true → is_literal o ≡ false
+pub conversion_literal : (o : Option TokenKind) → begins_conversion o ≡ true → is_literal o ≡ false
 conversion_literal (Some (kinds.Mark marks.OpenBracket)) h = refl
 conversion_literal (Some (kinds.Word words.Map)) h = refl
 conversion_literal (Some (kinds.Word words.Chan)) h = refl
