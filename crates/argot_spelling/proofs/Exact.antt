@@ -14,3 +14,4 @@ pub mod Members
 pub mod Levels
 pub mod Suffixes
 pub mod Operands
+pub mod Elements

@@ -84,7 +84,6 @@ module _ (tokens : List Token) where
   pub record Lists (bare : Bool) (n : ℕ) (out : List Post) (x : Forest) (from to : ℕ) : Type 0 where
     pub first : ℕ × List Post
     pub reads : read tokens n (The (Level 1 bare)) from out ≡ Some first
-    pub before : from < first.0
     pub then : (first.0 ≡ to) ⊎ HasMark tokens first.0 marks.Comma
     pub loops : read tokens n (MoreExprs bare) first.0 first.1 ≡ Some (to, out ++ posts x)
     pub goes : more_by tokens (read tokens n) bare first ≡ Some (to, out ++ posts x)
