@@ -15,3 +15,4 @@ pub mod Levels
 pub mod Suffixes
 pub mod Operands
 pub mod Elements
+pub mod Seconds

@@ -177,7 +177,7 @@ module _ (tokens : List Token) where
   pub after_stop : {to : ℕ} (bare : Bool) → Passes tokens stops to → After tokens bare to
   after_stop bare h = after bare (by_test (follows bare) (stops_follows bare) h)
 
-  operator_at : {at : ℕ} → 1 ≤ level_at tokens at → Passes tokens is_operator at
+  pub operator_at : {at : ℕ} → 1 ≤ level_at tokens at → Passes tokens is_operator at
   operator_at {at} h = record { there = operates (kind_at tokens at) h }
 
   -- a loop stays where nothing goes on
