@@ -16,3 +16,5 @@ pub mod Suffixes
 pub mod Operands
 pub mod Elements
 pub mod Seconds
+pub mod Declarations
+pub mod Files

@@ -96,7 +96,7 @@ module _ (tokens : List Token) where
       ap (λ j. is_at tokens from kinds.Name && begins_type (kind_at tokens j)) (names_stop tokens from (simp comma.is)) ∙ simp (untyped.there, both_false)
   embedded_unnamed {x} {from} {to} (embedded_qualified h d i) ends = then_not tokens begins_type from (kinds.Mark marks.Dot) (at_mark d) refl refl
 
-  names_forward : {x : Forest} {from to : ℕ} → Spells tokens Names x from to → from < to
+  pub names_forward : {x : Forest} {from to : ℕ} → Spells tokens Names x from to → from < to
   names_forward (last_name h) = omega arith
   names_forward (one_name h c s) = omega (arith, ahead tokens s)
 
