@@ -18,3 +18,4 @@ pub mod Elements
 pub mod Seconds
 pub mod Declarations
 pub mod Files
+pub mod Simples
