@@ -19,3 +19,4 @@ pub mod Seconds
 pub mod Declarations
 pub mod Files
 pub mod Simples
+pub mod Statements
