@@ -20,3 +20,5 @@ pub mod Declarations
 pub mod Files
 pub mod Simples
 pub mod Statements
+pub mod Heads
+pub mod Loops

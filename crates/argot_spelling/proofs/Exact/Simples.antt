@@ -101,7 +101,7 @@ module _ (tokens : List Token) where
   undefined : {b : Bool} {x : Forest} {from to : ℕ} → Spells tokens (Exprs b) x from to → Not tokens to (kinds.Mark marks.Comma) → Not tokens to (kinds.Mark marks.Define) → defines tokens from ≡ false
   undefined s comma no_define = defines_not tokens s comma (simp no_define.is)
 
-  undefined_mark : {b : Bool} {x : Forest} {from to : ℕ} {kind : TokenKind} → Spells tokens (Exprs b) x from to → HasAt tokens to kind → (kind_number kind == kind_number (kinds.Mark marks.Comma)) ≡ false → (kind_number kind == kind_number (kinds.Mark marks.Define)) ≡ false → defines tokens from ≡ false
+  pub undefined_mark : {b : Bool} {x : Forest} {from to : ℕ} {kind : TokenKind} → Spells tokens (Exprs b) x from to → HasAt tokens to kind → (kind_number kind == kind_number (kinds.Mark marks.Comma)) ≡ false → (kind_number kind == kind_number (kinds.Mark marks.Define)) ≡ false → defines tokens from ≡ false
   undefined_mark s h f g = undefined s (other (kinds.Mark marks.Comma) h f) (other (kinds.Mark marks.Define) h g)
 
   abbrev Read : Bool → Forest → ℕ → ℕ → Type 0
