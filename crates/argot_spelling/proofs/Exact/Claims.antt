@@ -14,10 +14,10 @@ use Rattle.argot_tree.specs.Grammar.{Part, Spells, File, Imports, Import, Specs,
 use Rattle.argot_spelling.specs.declared.post.Post.{Post}
 use Rattle.argot_spelling.specs.Posts.{posts}
 use Rattle.argot_spelling.specs.Rooms.{room}
-use Rattle.argot_spelling.specs.Reading.{Task, The, UnaryOr, PrimaryOr, OperandOr, Climb, Suffixes, MoreExprs, Ifs, Labels, closed_all, is_mark, goes_on}
+use Rattle.argot_spelling.specs.Reading.{Task, The, UnaryOr, PrimaryOr, OperandOr, Climb, Suffixes, MoreExprs, Ifs, Labels, ◌>>=◌, closed_all, is_mark, goes_on}
 use Rattle.argot_spelling.specs.TypeReader.{is_dotted, named_type_by, tag_by}
 use Rattle.argot_spelling.specs.ExpressionReader.{typed, recast}
-use Rattle.argot_spelling.specs.StatementReader.{ends_stmt, ends_stmts, more_by, opening_by, else_by}
+use Rattle.argot_spelling.specs.StatementReader.{ends_stmt, ends_stmts, ending, guards, more_by, opening_by, else_by}
 use Rattle.argot_spelling.specs.FileReader.{is_end}
 use Rattle.argot_spelling.specs.Reader.{read}
 use Rattle.argot_spelling.proofs.Exact.Tokens.{Not, EndsList, stops, follows, ends_simple, ends_spec}
@@ -122,9 +122,17 @@ module _ (tokens : List Token) where
     pub gets : (n : ℕ) (out : List Post) → room tokens from 7 ≤ n → Passes tokens ends_stmt to → Gets n (The Stmt) from out x to
     pub labelled : (begun : List (ℕ × ℕ)) (n : ℕ) (out : List Post) → room tokens from 8 ≤ n → Passes tokens ends_stmt to → read tokens n (Labels begun) from out ≡ Some (to, closed_all nodes.Labeled begun to (out ++ posts x))
 
+  -- a definition of one name: behind its names stands the first expression, and the others with the nodes around them
+  pub record Defines (n : ℕ) (out : List Post) (x : Forest) (from to : ℕ) : Type 0 where
+    pub first : ℕ × List Post
+    pub reads : read tokens n (The (Level 1 false)) (from + 2) (out ++ posts (one nodes.Names from (from + 1) (one nodes.DeclName from (from + 1) leaf))) ≡ Some first
+    pub unguarded : guards tokens first.0 ≡ false
+    pub goes : ((more_by tokens (read tokens n) false first >>= ending nodes.Exprs (from + 2) (length out + 2)) >>= ending nodes.Define from (length out)) ≡ Some (to, out ++ posts x)
+
   pub record OfSimple (bare : Bool) (x : Forest) (from to : ℕ) : Type 0 where
     pub gets : (n : ℕ) (out : List Post) → room tokens from 6 ≤ n → Passes tokens (ends_simple bare) to → Gets n (The (Simple bare)) from out x to
     pub opens : (n : ℕ) (out : List Post) → bare ≡ false → room tokens from 6 ≤ n → Passes tokens is_semicolon to → opening_by tokens (read tokens n) from out ≡ Some (to, out ++ posts x)
+    pub defines : (n : ℕ) (out : List Post) → bare ≡ false → HasAt tokens from kinds.Name → HasMark tokens (from + 1) marks.Define → room tokens from 6 ≤ n → Passes tokens is_semicolon to → Defines n out x from to
 
   -- what stands before a semicolon in a head
   pub data OfInit : Forest → ℕ → ℕ → Type 0 where

@@ -1,6 +1,6 @@
 -- Simple statements that are spelled are read, and as the first statement of a head.
-use Rattle.std.proofs.Common.{◌≡◌, ℕ, zero, suc, ◌+◌, ◌-◌, ◌*◌, ◌<◌, ◌≤◌, List, [], ◌∷◌, ◌++◌, length, Bool, true, false, ◌&&◌, Option, Some, None, refl, sym, ap, ◌∙◌, subst, inl, inr, ⊎_elim, arith}
-use Rattle.std.specs.Prelude.{◌==◌, ◌⊎◌, nat_le}
+use Rattle.std.proofs.Common.{◌≡◌, ℕ, zero, suc, ◌+◌, ◌-◌, ◌*◌, ◌<◌, ◌≤◌, List, [], ◌∷◌, ◌++◌, length, Bool, true, false, ◌&&◌, Option, Some, None, refl, sym, ap, ◌∙◌, subst, inl, inr, ⊎_elim, arith, length-append}
+use Rattle.std.specs.Prelude.{◌==◌, ◌⊎◌}
 use Rattle.std.proofs.lemmas.List.{append-nil}
 use Rattle.std.proofs.lemmas.Bool.{cases_Bool, false≢true, and_from, and_left, and_right, le-leb, lt-leb}
 use Rattle.argot_tree.specs.declared.keyword.Keyword.TheVariants as words
@@ -18,19 +18,20 @@ use Rattle.argot_spelling.specs.declared.post.Post.{Post}
 use Rattle.argot_spelling.specs.Posts.{posts}
 use Rattle.argot_spelling.specs.Rooms.{room}
 use Rattle.argot_spelling.specs.Reading.{The, closed, is_at, is_mark, is_kind, kind_number, behind_names}
-use Rattle.argot_spelling.specs.StatementReader.{defines, is_range, ends_stmt, begins_assign, labels, opening_by, simple_by}
+use Rattle.argot_spelling.specs.StatementReader.{defines, guards, is_range, ends_stmt, begins_assign, labels, opening_by, simple_by}
 use Rattle.argot_spelling.specs.Reader.{read}
 use Rattle.argot_spelling.proofs.Steps.{read_more}
 use Rattle.argot_spelling.proofs.TokenTests.{has_at}
+use Rattle.argot_spelling.proofs.PostLaws.{closed_posts}
 use Rattle.argot_spelling.proofs.Exact.Nodes.{over, over_two}
 use Rattle.argot_spelling.proofs.Exact.Ahead.{ahead}
 use Rattle.argot_spelling.proofs.Exact.Starts.{starts}
-use Rattle.argot_spelling.proofs.Exact.Tokens.{Not, other, apart, failing, stops, follows, ends_simple, begins_expr, at_mark, by_kind, by_mark, by_test, within_at, within_mark, within_pass}
+use Rattle.argot_spelling.proofs.Exact.Tokens.{Not, other, apart, failing, stops, follows, ends_simple, begins_expr, goes_behind, at_mark, by_kind, by_mark, by_test, within_at, within_mark, within_pass}
 use Rattle.argot_spelling.proofs.Exact.NameRuns.{names_end}
 use Rattle.argot_spelling.proofs.Exact.Levels.{level_gets, level_after, after, after_stop}
 use Rattle.argot_spelling.proofs.Exact.Elements.{exprs_whole}
 use Rattle.argot_spelling.proofs.Exact.Seconds.{defines_not, second_not, level_second, either_way}
-use Rattle.argot_spelling.proofs.Exact.Claims.{Gets, After, OfLevel, OfExprs, OfSimple, Exact}
+use Rattle.argot_spelling.proofs.Exact.Claims.{Gets, After, Defines, OfLevel, OfExprs, OfSimple, Exact}
 
 pub stmt_stops : (o : Option TokenKind) → ends_stmt o ≡ true → stops o ≡ true
 stmt_stops (Some kinds.Inserted) h = refl
@@ -92,6 +93,10 @@ is_step (Some (kinds.Mark marks.Increment)) = true
 is_step (Some (kinds.Mark marks.Decrement)) = true
 is_step _ = false
 
+abbrev is_comma : Option TokenKind → Bool
+is_comma (Some (kinds.Mark marks.Comma)) = true
+is_comma _ = false
+
 both_false : (b : Bool) → (b && false) ≡ false
 both_false true = refl
 both_false false = refl
@@ -110,9 +115,20 @@ module _ (tokens : List Token) where
   abbrev Opens : Forest → ℕ → ℕ → Type 0
   Opens x from to = (n : ℕ) (out : List Post) → room tokens from 6 ≤ n → Passes tokens is_semicolon to → opening_by tokens (read tokens n) from out ≡ Some (to, out ++ posts x)
 
+  abbrev DefinesOne : Forest → ℕ → ℕ → Type 0
+  DefinesOne x from to = (n : ℕ) (out : List Post) → HasAt tokens from kinds.Name → HasMark tokens (from + 1) marks.Define → room tokens from 6 ≤ n → Passes tokens is_semicolon to → Defines tokens n out x from to
+
   -- a statement of either kind
-  simply : (b : Bool) {x : Forest} {from to : ℕ} → Read b x from to → (b ≡ false → Opens x from to) → OfSimple tokens b x from to
-  simply b r o = record { gets = r; opens = λ n out bare enough c. o bare n out enough c }
+  simply : {b : Bool} {x : Forest} {from to : ℕ} → Read b x from to → (b ≡ false → Opens x from to) → (b ≡ false → DefinesOne x from to) → OfSimple tokens b x from to
+  simply r o d = record { gets = r; opens = λ n out bare enough c. o bare n out enough c; defines = λ n out bare h i enough c. d bare n out h i enough c }
+
+  -- one that is no definition
+  plainly : {b : Bool} {x : Forest} {from to : ℕ} → Read b x from to → (b ≡ false → Opens x from to) → (Passes tokens is_semicolon to → (is_at tokens from kinds.Name && is_mark tokens (from + 1) marks.Define) ≡ false) → OfSimple tokens b x from to
+  plainly {b} {x} {from} {to} r o e = record {
+    gets = r;
+    opens = λ n out bare enough c. o bare n out enough c;
+    defines = λ n out bare h i enough c. absurd (false≢true (sym (e c) ∙ simp (h.there, i.there)));
+  }
 
   ends_simply : {to : ℕ} (b : Bool) → Passes tokens is_semicolon to → Passes tokens (ends_simple b) to
   ends_simply b c = by_test (ends_simple b) (semicolon_simple b) c
@@ -122,6 +138,11 @@ module _ (tokens : List Token) where
 
   after_semicolon : {to : ℕ} (b : Bool) → Passes tokens is_semicolon to → After tokens b to
   after_semicolon b c = after_simple b (ends_simply b c)
+
+  -- what isn't behind expressions, and no comma, isn't behind their first name
+  exprs_second : {test : Option TokenKind → Bool} {b : Bool} {x : Forest} {from to : ℕ} (kind : TokenKind) → Spells tokens (Exprs b) x from to → Passes tokens test to → test (Some kind) ≡ false → is_comma (Some kind) ≡ false → goes_behind (Some kind) ≡ false → (is_at tokens from kinds.Name && is_at tokens (from + 1) kind) ≡ false
+  exprs_second kind (last_expr s) h f c g = second_not tokens kind s h f g
+  exprs_second kind (one_expr s d t) h f c g = second_not tokens {test = is_comma} kind s (by_mark is_comma d refl) c g
 
   read_expr : {b : Bool} {x : Forest} {from to : ℕ} → Spells tokens (Level 1 b) x from to → OfLevel tokens 1 b x from to → Read b (one nodes.ExprStmt from to x) from to
   read_expr {b} {x} {from} {to} s ih = λ n out enough ends.
@@ -148,8 +169,8 @@ module _ (tokens : List Token) where
       simp (none, reads, open_brace.is, dot.is, no_assign.there, no_define.is, arrow.is, up.is, down.is, c.there, over nodes.ExprStmt from to out x)
 
   pub exact_expr_stmt : {b : Bool} {x : Forest} {from to : ℕ} → Spells tokens (Level 1 b) x from to → OfLevel tokens 1 b x from to → OfSimple tokens b (one nodes.ExprStmt from to x) from to
-  exact_expr_stmt {b = true} s ih = simply true (read_expr s ih) (λ e. absurd (false≢true (sym e)))
-  exact_expr_stmt {b = false} s ih = simply false (read_expr s ih) (λ e. open_expr s ih)
+  exact_expr_stmt {b = true} s ih = plainly (read_expr s ih) (λ e. absurd (false≢true (sym e))) (λ c. second_not tokens (kinds.Mark marks.Define) s c refl refl)
+  exact_expr_stmt {b = false} s ih = plainly (read_expr s ih) (λ e. open_expr s ih) (λ c. second_not tokens (kinds.Mark marks.Define) s c refl refl)
 
   read_send : {b : Bool} {x y : Forest} {from mid to : ℕ} → Spells tokens (Level 1 b) x from mid → HasMark tokens mid marks.Arrow → Spells tokens (Level 1 b) y (mid + 1) to → OfLevel tokens 1 b x from mid → OfLevel tokens 1 b y (mid + 1) to → Read b (one nodes.Send from to (beside x y)) from to
   read_send {b} {x} {y} {from} {mid} {to} s h t ihx ihy = λ n out enough ends.
@@ -171,8 +192,8 @@ module _ (tokens : List Token) where
       simp (none, reads, h.there, then, c.there, over_two nodes.Send from to out x y)
 
   pub exact_send : {b : Bool} {x y : Forest} {from mid to : ℕ} → Spells tokens (Level 1 b) x from mid → HasMark tokens mid marks.Arrow → Spells tokens (Level 1 b) y (mid + 1) to → OfLevel tokens 1 b x from mid → OfLevel tokens 1 b y (mid + 1) to → OfSimple tokens b (one nodes.Send from to (beside x y)) from to
-  exact_send {b = true} s h t ihx ihy = simply true (read_send s h t ihx ihy) (λ e. absurd (false≢true (sym e)))
-  exact_send {b = false} s h t ihx ihy = simply false (read_send s h t ihx ihy) (λ e. open_send s h t ihx ihy)
+  exact_send {b = true} s h t ihx ihy = plainly (read_send s h t ihx ihy) (λ e. absurd (false≢true (sym e))) (λ c. second_not tokens {test = is_step} (kinds.Mark marks.Define) s (by_mark is_step h refl) refl refl)
+  exact_send {b = false} s h t ihx ihy = plainly (read_send s h t ihx ihy) (λ e. open_send s h t ihx ihy) (λ c. second_not tokens {test = is_step} (kinds.Mark marks.Define) s (by_mark is_step h refl) refl refl)
 
   read_increment : {b : Bool} {x : Forest} {from to : ℕ} → Spells tokens (Level 1 b) x from to → HasMark tokens to marks.Increment → OfLevel tokens 1 b x from to → Read b (one nodes.Increment from (to + 1) x) from (to + 1)
   read_increment {b} {x} {from} {to} s h ih = λ n out enough ends.
@@ -188,8 +209,8 @@ module _ (tokens : List Token) where
       simp (none, reads, h.there, c.there, over nodes.Increment from (to + 1) out x)
 
   pub exact_increment : {b : Bool} {x : Forest} {from to : ℕ} → Spells tokens (Level 1 b) x from to → HasMark tokens to marks.Increment → OfLevel tokens 1 b x from to → OfSimple tokens b (one nodes.Increment from (to + 1) x) from (to + 1)
-  exact_increment {b = true} s h ih = simply true (read_increment s h ih) (λ e. absurd (false≢true (sym e)))
-  exact_increment {b = false} s h ih = simply false (read_increment s h ih) (λ e. open_increment s h ih)
+  exact_increment {b = true} s h ih = plainly (read_increment s h ih) (λ e. absurd (false≢true (sym e))) (λ c. second_not tokens {test = is_step} (kinds.Mark marks.Define) s (by_mark is_step h refl) refl refl)
+  exact_increment {b = false} s h ih = plainly (read_increment s h ih) (λ e. open_increment s h ih) (λ c. second_not tokens {test = is_step} (kinds.Mark marks.Define) s (by_mark is_step h refl) refl refl)
 
   read_decrement : {b : Bool} {x : Forest} {from to : ℕ} → Spells tokens (Level 1 b) x from to → HasMark tokens to marks.Decrement → OfLevel tokens 1 b x from to → Read b (one nodes.Decrement from (to + 1) x) from (to + 1)
   read_decrement {b} {x} {from} {to} s h ih = λ n out enough ends.
@@ -205,8 +226,8 @@ module _ (tokens : List Token) where
       simp (none, reads, h.there, c.there, over nodes.Decrement from (to + 1) out x)
 
   pub exact_decrement : {b : Bool} {x : Forest} {from to : ℕ} → Spells tokens (Level 1 b) x from to → HasMark tokens to marks.Decrement → OfLevel tokens 1 b x from to → OfSimple tokens b (one nodes.Decrement from (to + 1) x) from (to + 1)
-  exact_decrement {b = true} s h ih = simply true (read_decrement s h ih) (λ e. absurd (false≢true (sym e)))
-  exact_decrement {b = false} s h ih = simply false (read_decrement s h ih) (λ e. open_decrement s h ih)
+  exact_decrement {b = true} s h ih = plainly (read_decrement s h ih) (λ e. absurd (false≢true (sym e))) (λ c. second_not tokens {test = is_step} (kinds.Mark marks.Define) s (by_mark is_step h refl) refl refl)
+  exact_decrement {b = false} s h ih = plainly (read_decrement s h ih) (λ e. open_decrement s h ih) (λ c. second_not tokens {test = is_step} (kinds.Mark marks.Define) s (by_mark is_step h refl) refl refl)
 
   -- behind the first of the left sides an assignment goes on
   assigns : {from to : ℕ} → Passes tokens begins_assign to → (from ≡ to) ⊎ HasMark tokens from marks.Comma → Passes tokens begins_assign from
@@ -248,8 +269,8 @@ module _ (tokens : List Token) where
       simp (none, reads, open_brace.is, dot.is, first.there, goes, no_range.there, h.there, over nodes.Exprs from mid out x, then, over nodes.Exprs (mid + 1) to (out ++ posts left) y, over_two nodes.Assign from to out left right, c.there)
 
   pub exact_assign : {b : Bool} {x y : Forest} {from mid to : ℕ} → Spells tokens (Exprs b) x from mid → HasMark tokens mid marks.Assign → Spells tokens (Exprs b) y (mid + 1) to → OfExprs tokens b x from mid → OfExprs tokens b y (mid + 1) to → OfSimple tokens b (one nodes.Assign from to (beside (one nodes.Exprs from mid x) (one nodes.Exprs (mid + 1) to y))) from to
-  exact_assign {b = true} s h t ihx ihy = simply true (read_assign s h t ihx ihy) (λ e. absurd (false≢true (sym e)))
-  exact_assign {b = false} s h t ihx ihy = simply false (read_assign s h t ihx ihy) (λ e. open_assign s h t ihx ihy)
+  exact_assign {b = true} s h t ihx ihy = plainly (read_assign s h t ihx ihy) (λ e. absurd (false≢true (sym e))) (λ c. exprs_second {test = begins_assign} (kinds.Mark marks.Define) s (by_mark begins_assign h refl) refl refl refl)
+  exact_assign {b = false} s h t ihx ihy = plainly (read_assign s h t ihx ihy) (λ e. open_assign s h t ihx ihy) (λ c. exprs_second {test = begins_assign} (kinds.Mark marks.Define) s (by_mark begins_assign h refl) refl refl refl)
 
   read_op_assign : {b : Bool} {x y : Forest} {from mid to : ℕ} → Spells tokens (Exprs b) x from mid → Passes tokens is_op_assign mid → Spells tokens (Exprs b) y (mid + 1) to → OfExprs tokens b x from mid → OfExprs tokens b y (mid + 1) to → Read b (one nodes.OpAssign from to (beside (one nodes.Exprs from mid x) (one nodes.Exprs (mid + 1) to y))) from to
   read_op_assign {b} {x} {y} {from} {mid} {to} s h t ihx ihy = λ n out enough ends.
@@ -290,8 +311,8 @@ module _ (tokens : List Token) where
       simp (none, reads, open_brace.is, dot.is, first.there, goes, no_range.there, no_define.is, no_equals.is, h.there, over nodes.Exprs from mid out x, then, over nodes.Exprs (mid + 1) to (out ++ posts left) y, over_two nodes.OpAssign from to out left right, c.there)
 
   pub exact_op_assign : {b : Bool} {x y : Forest} {from mid to : ℕ} → Spells tokens (Exprs b) x from mid → Passes tokens is_op_assign mid → Spells tokens (Exprs b) y (mid + 1) to → OfExprs tokens b x from mid → OfExprs tokens b y (mid + 1) to → OfSimple tokens b (one nodes.OpAssign from to (beside (one nodes.Exprs from mid x) (one nodes.Exprs (mid + 1) to y))) from to
-  exact_op_assign {b = true} s h t ihx ihy = simply true (read_op_assign s h t ihx ihy) (λ e. absurd (false≢true (sym e)))
-  exact_op_assign {b = false} s h t ihx ihy = simply false (read_op_assign s h t ihx ihy) (λ e. open_op_assign s h t ihx ihy)
+  exact_op_assign {b = true} s h t ihx ihy = plainly (read_op_assign s h t ihx ihy) (λ e. absurd (false≢true (sym e))) (λ c. exprs_second (kinds.Mark marks.Define) s h refl refl refl)
+  exact_op_assign {b = false} s h t ihx ihy = plainly (read_op_assign s h t ihx ihy) (λ e. open_op_assign s h t ihx ihy) (λ c. exprs_second (kinds.Mark marks.Define) s h refl refl refl)
 
   -- names and `:=` stand at the front of a definition
   defined : {b : Bool} {x y : Forest} {from mid to : ℕ} → Spells tokens Names x from mid → HasMark tokens mid marks.Define → Spells tokens (Exprs b) y (mid + 1) to → defines tokens from ≡ true
@@ -316,13 +337,38 @@ module _ (tokens : List Token) where
       let reads = read_define s h t ihx ihy n out enough (ends_simply false c) in
       simp (defined s h t) (simp (reads, c.there))
 
-  pub exact_define : {b : Bool} {x y : Forest} {from mid to : ℕ} → Spells tokens Names x from mid → HasMark tokens mid marks.Define → Spells tokens (Exprs b) y (mid + 1) to → Exact tokens Names x from mid → OfExprs tokens b y (mid + 1) to → OfSimple tokens b (one nodes.Define from to (beside (one nodes.Names from mid x) (one nodes.Exprs (mid + 1) to y))) from to
-  exact_define {b = true} s h t ihx ihy = simply true (read_define s h t ihx ihy) (λ e. absurd (false≢true (sym e)))
-  exact_define {b = false} s h t ihx ihy = simply false (read_define s h t ihx ihy) (λ e. open_define s h t ihx ihy)
+  -- behind one name and `:=`
+  unguarded : {at to : ℕ} → Passes tokens is_semicolon to → (at ≡ to) ⊎ HasMark tokens at marks.Comma → guards tokens at ≡ false
+  unguarded {at} {to} c then =
+      let dot : Not tokens at (kinds.Mark marks.Dot) = ⊎_elim (λ e. subst (λ i. Not tokens i (kinds.Mark marks.Dot)) (sym e) (apart (kinds.Mark marks.Dot) c refl)) (λ d. other (kinds.Mark marks.Dot) (at_mark d) refl) then in
+      simp dot.is
 
-  exprs_unlabelled : {test : Option TokenKind → Bool} {b : Bool} {x : Forest} {from to : ℕ} → Spells tokens (Exprs b) x from to → Passes tokens test to → test (Some (kinds.Mark marks.Colon)) ≡ false → labels tokens from ≡ false
-  exprs_unlabelled (last_expr s) h f = second_not tokens (kinds.Mark marks.Colon) s h f refl
-  exprs_unlabelled (one_expr s c t) h f = second_not tokens {test = begins_assign} (kinds.Mark marks.Colon) s (by_mark begins_assign c refl) refl refl
+  define_last : (from to : ℕ) (y : Forest) → HasMark tokens (from + 1) marks.Define → OfExprs tokens false y (from + 2) to → DefinesOne (one nodes.Define from to (beside (one nodes.Names from (from + 1) (one nodes.DeclName from (from + 1) leaf)) (one nodes.Exprs (from + 2) to y))) from to
+  define_last from to y h ihy n out name mark enough c =
+      let within = within_mark h in
+      let names = one nodes.Names from (from + 1) (one nodes.DeclName from (from + 1) leaf) in
+      let values = one nodes.Exprs (from + 2) to y in
+      let r = ihy n (out ++ posts names) (omega arith) (after_semicolon false c) (apart (kinds.Mark marks.Comma) c refl) in
+      let goes = r.goes in
+      let long : length out + 2 ≡ length (out ++ posts names) = omega (arith, length-append out (posts names)) in
+      record {
+        first = r.first;
+        reads = r.reads;
+        unguarded = unguarded c r.then;
+        goes = simp (goes, closed_posts nodes.Exprs (from + 2) to (length out + 2) (out ++ posts names) ((out ++ posts names) ++ posts y) y refl long, over_two nodes.Define from to out names values);
+      }
+
+  define_one : {x y : Forest} {from mid to : ℕ} → Spells tokens Names x from mid → HasMark tokens mid marks.Define → Spells tokens (Exprs false) y (mid + 1) to → OfExprs tokens false y (mid + 1) to → DefinesOne (one nodes.Define from to (beside (one nodes.Names from mid x) (one nodes.Exprs (mid + 1) to y))) from to
+  define_one {x} {y} {from} {mid} {to} (last_name i) h t ihy =
+      let next : from + 2 ≡ from + 1 + 1 = omega arith in
+      let whole : OfExprs tokens false y (from + 1 + 1) to → DefinesOne (one nodes.Define from to (beside (one nodes.Names from (from + 1) (one nodes.DeclName from (from + 1) leaf)) (one nodes.Exprs (from + 1 + 1) to y))) from to =
+          subst (λ m. OfExprs tokens false y m to → DefinesOne (one nodes.Define from to (beside (one nodes.Names from (from + 1) (one nodes.DeclName from (from + 1) leaf)) (one nodes.Exprs m to y))) from to) next (define_last from to y h) in
+      whole ihy
+  define_one {x} {y} {from} {mid} {to} (one_name i d s) h t ihy = λ n out name mark enough c. absurd (false≢true (sym (other (kinds.Mark marks.Define) (at_mark d) refl).is ∙ ap (λ o. is_kind o (kinds.Mark marks.Define)) mark.there))
+
+  pub exact_define : {b : Bool} {x y : Forest} {from mid to : ℕ} → Spells tokens Names x from mid → HasMark tokens mid marks.Define → Spells tokens (Exprs b) y (mid + 1) to → Exact tokens Names x from mid → OfExprs tokens b y (mid + 1) to → OfSimple tokens b (one nodes.Define from to (beside (one nodes.Names from mid x) (one nodes.Exprs (mid + 1) to y))) from to
+  exact_define {b = true} s h t ihx ihy = simply (read_define s h t ihx ihy) (λ e. absurd (false≢true (sym e))) (λ e. absurd (false≢true (sym e)))
+  exact_define {b = false} s h t ihx ihy = simply (read_define s h t ihx ihy) (λ e. open_define s h t ihx ihy) (λ e. define_one s h t ihy)
 
   names_unlabelled : {x : Forest} {from to : ℕ} → Spells tokens Names x from to → HasMark tokens to marks.Define → labels tokens from ≡ false
   names_unlabelled (last_name h) d = simp (d.there, both_false)
@@ -334,6 +380,6 @@ module _ (tokens : List Token) where
   simple_unlabelled (send s h t) ends = second_not tokens {test = is_step} (kinds.Mark marks.Colon) s (by_mark is_step h refl) refl refl
   simple_unlabelled (increment s h) ends = second_not tokens {test = is_step} (kinds.Mark marks.Colon) s (by_mark is_step h refl) refl refl
   simple_unlabelled (decrement s h) ends = second_not tokens {test = is_step} (kinds.Mark marks.Colon) s (by_mark is_step h refl) refl refl
-  simple_unlabelled (assign s h t) ends = exprs_unlabelled {test = begins_assign} s (by_mark begins_assign h refl) refl
-  simple_unlabelled (op_assign s h t) ends = exprs_unlabelled s h refl
+  simple_unlabelled (assign s h t) ends = exprs_second {test = begins_assign} (kinds.Mark marks.Colon) s (by_mark begins_assign h refl) refl refl refl
+  simple_unlabelled (op_assign s h t) ends = exprs_second (kinds.Mark marks.Colon) s h refl refl refl
   simple_unlabelled (define s h t) ends = names_unlabelled s h
