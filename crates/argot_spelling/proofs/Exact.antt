@@ -22,3 +22,5 @@ pub mod Simples
 pub mod Statements
 pub mod Heads
 pub mod Loops
+pub mod Switches
+pub mod Clauses

@@ -91,7 +91,7 @@ init_sound {tokens} {rec} g from base r w simple =
     (λ _. none)
 
 -- without the node
-unnamed : (start : ℕ) (base new : List Post) (y : Forest) → new ≡ closed nodes.Names start (start + 1) (length base) (put nodes.DeclName start (start + 1) base) ++ posts y → remove new (length base + 1) ≡ put nodes.DeclName start (start + 1) base ++ posts y
+pub unnamed : (start : ℕ) (base new : List Post) (y : Forest) → new ≡ closed nodes.Names start (start + 1) (length base) (put nodes.DeclName start (start + 1) base) ++ posts y → remove new (length base + 1) ≡ put nodes.DeclName start (start + 1) base ++ posts y
 unnamed start base new y e =
     let named : List Post = put nodes.DeclName start (start + 1) base in
     let root : Post = record { kind = nodes.Names; token = start; last = last_token start (start + 1); size = length named + 1 - length base } in
