@@ -24,3 +24,4 @@ pub mod Heads
 pub mod Loops
 pub mod Switches
 pub mod Clauses
+pub mod Whole
