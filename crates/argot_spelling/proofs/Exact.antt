@@ -25,3 +25,5 @@ pub mod Loops
 pub mod Switches
 pub mod Clauses
 pub mod Whole
+pub mod Planting
+pub mod Unique

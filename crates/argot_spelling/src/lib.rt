@@ -7,5 +7,5 @@
 mod laws;
 mod post;
 
-pub use laws::reads_spelled;
+pub use laws::{one_tree, reads_spelled, spelled_read};
 pub use post::Post;
