@@ -80,6 +80,13 @@ module _ (tokens : List Token) where
   OfPrimary bare x from to =
       (types : Bool) (n : ℕ) (out : List Post) → room tokens from 3 ≤ n → NoBrace bare to → Comes types bare n out x from to
 
+  -- the same of what ends in a bracket or a literal, whatever stands behind it
+  abbrev pub WholeOperand : Bool → Forest → ℕ → ℕ → Type 0
+  WholeOperand bare x from to = (types : Bool) (n : ℕ) (out : List Post) → room tokens from 2 ≤ n → Gets n (OperandOr types bare) from out x to
+
+  abbrev pub WholePrimary : Bool → Forest → ℕ → ℕ → Type 0
+  WholePrimary bare x from to = (types : Bool) (n : ℕ) (out : List Post) → room tokens from 3 ≤ n → Comes types bare n out x from to
+
   -- expressions: the first of them, and the others behind it
   pub record Lists (bare : Bool) (n : ℕ) (out : List Post) (x : Forest) (from to : ℕ) : Type 0 where
     pub first : ℕ × List Post

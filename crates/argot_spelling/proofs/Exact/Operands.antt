@@ -30,7 +30,7 @@ use Rattle.argot_spelling.proofs.Exact.Tokens.{Not, other, apart, stops, follows
 use Rattle.argot_spelling.proofs.Exact.Lists.{end_passes, passed, paren}
 use Rattle.argot_spelling.proofs.Exact.TypeParts.{conversion_literal}
 use Rattle.argot_spelling.proofs.Exact.Levels.{level_gets}
-use Rattle.argot_spelling.proofs.Exact.Claims.{Gets, NoBrace, OfLevel, OfType, OfEmbedded, Exact}
+use Rattle.argot_spelling.proofs.Exact.Claims.{Gets, NoBrace, WholeOperand, OfLevel, OfType, OfEmbedded, Exact}
 
 and_false : (b : Bool) → (b && false) ≡ false
 and_false true = refl
@@ -68,8 +68,8 @@ below None kind from to out new e = absurd (false≢true (ap is_found e))
 below (Some r) kind from to out new e = below_found r kind from to out new e
 
 module _ (tokens : List Token) where
-  pub exact_literal : (b : Bool) {from : ℕ} → Passes tokens is_literal from → Exact tokens (Operand b) (one nodes.Literal from (from + 1) leaf) from (from + 1)
-  exact_literal b {from} h = λ types n out enough brace.
+  pub exact_literal : (b : Bool) {from : ℕ} → Passes tokens is_literal from → WholeOperand tokens b (one nodes.Literal from (from + 1) leaf) from (from + 1)
+  exact_literal b {from} h = λ types n out enough.
       let more : 0 < n = omega arith in
       let name = apart kinds.Name h refl in
       read_more tokens n (OperandOr types b) from out more ∙ simp (name.is, h.there, put_posts nodes.Literal from (from + 1) out)
@@ -92,15 +92,15 @@ module _ (tokens : List Token) where
       let more : 0 < n = omega arith in
       ⊎_elim (λ d. dotted_name h brace types n out more d) (λ d. undotted_name h brace types n out more d) (cases_Bool (is_dotted tokens from))
 
-  pub exact_parens : (b : Bool) {x : Forest} {from to : ℕ} → HasMark tokens from marks.OpenParen → Spells tokens Either x (from + 1) to → HasMark tokens to marks.CloseParen → Exact tokens Either x (from + 1) to → Exact tokens (Operand b) (one nodes.Parens from (to + 1) x) from (to + 1)
-  exact_parens b {x} {from} {to} h s c ih = λ types n out enough brace.
+  pub exact_parens : (b : Bool) {x : Forest} {from to : ℕ} → HasMark tokens from marks.OpenParen → Spells tokens Either x (from + 1) to → HasMark tokens to marks.CloseParen → Exact tokens Either x (from + 1) to → WholeOperand tokens b (one nodes.Parens from (to + 1) x) from (to + 1)
+  exact_parens b {x} {from} {to} h s c ih = λ types n out enough.
       let within = within_mark h in
       let more : 0 < n = omega arith in
       let reads = ih (n - 1) out (omega arith) (by_mark stops c refl) in
       read_more tokens n (OperandOr types b) from out more ∙ simp (h.there, reads, c.there, over nodes.Parens from (to + 1) out x)
 
-  pub exact_func_literal : (b : Bool) {x y : Forest} {from mid to : ℕ} → HasWord tokens from words.Func → Spells tokens Signature x (from + 1) mid → Spells tokens Block y mid to → Exact tokens Signature x (from + 1) mid → Exact tokens Block y mid to → Exact tokens (Operand b) (one nodes.FuncLiteral from to (beside x y)) from to
-  exact_func_literal b {x} {y} {from} {mid} {to} h s t ihx ihy = λ types n out enough brace.
+  pub exact_func_literal : (b : Bool) {x y : Forest} {from mid to : ℕ} → HasWord tokens from words.Func → Spells tokens Signature x (from + 1) mid → Spells tokens Block y mid to → Exact tokens Signature x (from + 1) mid → Exact tokens Block y mid to → WholeOperand tokens b (one nodes.FuncLiteral from to (beside x y)) from to
+  exact_func_literal b {x} {y} {from} {mid} {to} h s t ihx ihy = λ types n out enough.
       let within = within_word h in
       let forward = ahead tokens s in
       let more : 0 < n = omega arith in
@@ -140,8 +140,8 @@ module _ (tokens : List Token) where
       let step : read tokens (n + 1) (The AnyType) from out ≡ read tokens (n + 1 - 1) (The OnlyType) from out = read_more tokens (n + 1) (The AnyType) from out more ∙ simp (name.is, open_paren.is, star.is) in
       ap (λ m. read tokens m (The OnlyType) from out) same ∙ sym step ∙ ih.gets (n + 1) out enough dot
 
-  pub exact_composite : (b : Bool) {x y : Forest} {from mid to : ℕ} → Passes tokens begins_composite from → Spells tokens AnyType x from mid → Spells tokens Elems y mid to → OfType tokens x from mid → Exact tokens Elems y mid to → Exact tokens (Operand b) (one nodes.Composite from to (beside x y)) from to
-  exact_composite b {x} {y} {from} {mid} {to} h s t ihx ihy = λ types n out enough brace.
+  pub exact_composite : (b : Bool) {x y : Forest} {from mid to : ℕ} → Passes tokens begins_composite from → Spells tokens AnyType x from mid → Spells tokens Elems y mid to → OfType tokens x from mid → Exact tokens Elems y mid to → WholeOperand tokens b (one nodes.Composite from to (beside x y)) from to
+  exact_composite b {x} {y} {from} {mid} {to} h s t ihx ihy = λ types n out enough.
       let within = within_pass h refl in
       let forward = ahead tokens s in
       let more : 0 < n = omega arith in
@@ -155,8 +155,8 @@ module _ (tokens : List Token) where
       let then = ihy (n - 1) (out ++ posts x) (omega arith) in
       read_more tokens n (OperandOr types b) from out more ∙ simp (name.is, literal, open_paren.is, func.is, type_closed s, start.there, reads, h.there, open_brace.there, then, over_two nodes.Composite from to out x y)
 
-  pub exact_open_composite : (b : Bool) {x y : Forest} {from mid to : ℕ} → HasMark tokens from marks.OpenBracket → HasMark tokens (from + 1) marks.Ellipsis → HasMark tokens (from + 2) marks.CloseBracket → Spells tokens AnyType x (from + 3) mid → Spells tokens Elems y mid to → OfType tokens x (from + 3) mid → Exact tokens Elems y mid to → Exact tokens (Operand b) (one nodes.Composite from to (beside (one nodes.OpenArrayType from mid x) y)) from to
-  exact_open_composite b {x} {y} {from} {mid} {to} h i j s t ihx ihy = λ types n out enough brace.
+  pub exact_open_composite : (b : Bool) {x y : Forest} {from mid to : ℕ} → HasMark tokens from marks.OpenBracket → HasMark tokens (from + 1) marks.Ellipsis → HasMark tokens (from + 2) marks.CloseBracket → Spells tokens AnyType x (from + 3) mid → Spells tokens Elems y mid to → OfType tokens x (from + 3) mid → Exact tokens Elems y mid to → WholeOperand tokens b (one nodes.Composite from to (beside (one nodes.OpenArrayType from mid x) y)) from to
+  exact_open_composite b {x} {y} {from} {mid} {to} h i j s t ihx ihy = λ types n out enough.
       let within = within_mark h in
       let forward = ahead tokens s in
       let more : 0 < n = omega arith in
@@ -170,8 +170,8 @@ module _ (tokens : List Token) where
   embedded_end (embedded_name h) = omega arith
   embedded_end (embedded_qualified h i j) = omega arith
 
-  pub exact_bare_composite : {x y : Forest} {from mid to : ℕ} → Spells tokens Embedded x from mid → Spells tokens Elems y mid to → OfEmbedded tokens x from mid → Exact tokens Elems y mid to → Exact tokens (Operand true) (one nodes.Composite from to (beside x y)) from to
-  exact_bare_composite {x} {y} {from} {mid} {to} s t ihx ihy = λ types n out enough brace.
+  pub exact_bare_composite : {x y : Forest} {from mid to : ℕ} → Spells tokens Embedded x from mid → Spells tokens Elems y mid to → OfEmbedded tokens x from mid → Exact tokens Elems y mid to → WholeOperand tokens true (one nodes.Composite from to (beside x y)) from to
+  exact_bare_composite {x} {y} {from} {mid} {to} s t ihx ihy = λ types n out enough.
       let more : 0 < n = omega arith in
       let name = ihx.name in
       let within = within_at name in
@@ -181,8 +181,8 @@ module _ (tokens : List Token) where
       let then = ihy (n - 1) (out ++ posts x) (omega arith) in
       read_more tokens n (OperandOr types true) from out more ∙ simp (name.there, reads, open_brace.there, then, over_two nodes.Composite from to out x y)
 
-  func_converts : (b : Bool) {x y : Forest} {from mid mid2 to : ℕ} → HasWord tokens from words.Func → Spells tokens AnyType x from mid → HasMark tokens mid marks.OpenParen → Spells tokens (Level 1 true) y (mid + 1) mid2 → MaybeComma tokens mid2 to → HasMark tokens to marks.CloseParen → OfType tokens x from mid → OfLevel tokens 1 true y (mid + 1) mid2 → Exact tokens (Operand b) (one nodes.Conversion from (to + 1) (beside x y)) from (to + 1)
-  func_converts b {x} {y} {from} {mid} {mid2} {to} h s i t m c ihx ihy = λ types n out enough brace.
+  func_converts : (b : Bool) {x y : Forest} {from mid mid2 to : ℕ} → HasWord tokens from words.Func → Spells tokens AnyType x from mid → HasMark tokens mid marks.OpenParen → Spells tokens (Level 1 true) y (mid + 1) mid2 → MaybeComma tokens mid2 to → HasMark tokens to marks.CloseParen → OfType tokens x from mid → OfLevel tokens 1 true y (mid + 1) mid2 → WholeOperand tokens b (one nodes.Conversion from (to + 1) (beside x y)) from (to + 1)
+  func_converts b {x} {y} {from} {mid} {mid2} {to} h s i t m c ihx ihy = λ types n out enough.
       let within = within_word h in
       let forward = ahead tokens s in
       let more : 0 < n = omega arith in
@@ -195,8 +195,8 @@ module _ (tokens : List Token) where
       let then = level_gets tokens t ihy (end_passes tokens (follows true) ends refl refl) (n - 1) (out ++ posts x) (omega arith) in
       read_more tokens n (OperandOr types b) from out more ∙ simp (h.there, reads, i.there, closes, then, passed tokens ((out ++ posts x) ++ posts y) paren m c, over_two nodes.Conversion from (to + 1) out x y)
 
-  only_converts : (b : Bool) {x y : Forest} {from mid mid2 to : ℕ} → is_word tokens from words.Func ≡ false → Passes tokens begins_conversion from → Spells tokens AnyType x from mid → HasMark tokens mid marks.OpenParen → Spells tokens (Level 1 true) y (mid + 1) mid2 → MaybeComma tokens mid2 to → HasMark tokens to marks.CloseParen → OfType tokens x from mid → OfLevel tokens 1 true y (mid + 1) mid2 → Exact tokens (Operand b) (one nodes.Conversion from (to + 1) (beside x y)) from (to + 1)
-  only_converts b {x} {y} {from} {mid} {mid2} {to} func start s i t m c ihx ihy = λ types n out enough brace.
+  only_converts : (b : Bool) {x y : Forest} {from mid mid2 to : ℕ} → is_word tokens from words.Func ≡ false → Passes tokens begins_conversion from → Spells tokens AnyType x from mid → HasMark tokens mid marks.OpenParen → Spells tokens (Level 1 true) y (mid + 1) mid2 → MaybeComma tokens mid2 to → HasMark tokens to marks.CloseParen → OfType tokens x from mid → OfLevel tokens 1 true y (mid + 1) mid2 → WholeOperand tokens b (one nodes.Conversion from (to + 1) (beside x y)) from (to + 1)
+  only_converts b {x} {y} {from} {mid} {mid2} {to} func start s i t m c ihx ihy = λ types n out enough.
       let within = within_pass start refl in
       let forward = ahead tokens s in
       let more : 0 < n = omega arith in
@@ -208,6 +208,6 @@ module _ (tokens : List Token) where
       let then = level_gets tokens t ihy (end_passes tokens (follows true) ends refl refl) (n - 1) (out ++ posts x) (omega arith) in
       read_more tokens n (OperandOr types b) from out more ∙ simp (name.is, literal, open_paren.is, func, type_closed s, start.there, reads, i.there, and_false, then, passed tokens ((out ++ posts x) ++ posts y) paren m c, over_two nodes.Conversion from (to + 1) out x y)
 
-  pub exact_conversion : (b : Bool) {x y : Forest} {from mid mid2 to : ℕ} → Passes tokens begins_conversion from → Spells tokens AnyType x from mid → HasMark tokens mid marks.OpenParen → Spells tokens (Level 1 true) y (mid + 1) mid2 → MaybeComma tokens mid2 to → HasMark tokens to marks.CloseParen → OfType tokens x from mid → OfLevel tokens 1 true y (mid + 1) mid2 → Exact tokens (Operand b) (one nodes.Conversion from (to + 1) (beside x y)) from (to + 1)
+  pub exact_conversion : (b : Bool) {x y : Forest} {from mid mid2 to : ℕ} → Passes tokens begins_conversion from → Spells tokens AnyType x from mid → HasMark tokens mid marks.OpenParen → Spells tokens (Level 1 true) y (mid + 1) mid2 → MaybeComma tokens mid2 to → HasMark tokens to marks.CloseParen → OfType tokens x from mid → OfLevel tokens 1 true y (mid + 1) mid2 → WholeOperand tokens b (one nodes.Conversion from (to + 1) (beside x y)) from (to + 1)
   exact_conversion b {x} {y} {from} h s i t m c ihx ihy =
       ⊎_elim (λ func. func_converts b (has_word from words.Func func) s i t m c ihx ihy) (λ func. only_converts b func h s i t m c ihx ihy) (cases_Bool (is_word tokens from words.Func))

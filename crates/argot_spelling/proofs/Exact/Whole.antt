@@ -126,26 +126,26 @@ module _ (tokens : List Token) where
   exact (unary h s) = exact_unary tokens h s (exact s)
   exact (primary s) = exact_primary tokens s (exact s)
   exact (operand s) = exact_operand tokens s (exact s)
-  exact (literal {b = b} h) = exact_literal tokens b h
+  exact (literal {b = b} h) = λ types n out enough brace. exact_literal tokens b h types n out enough
   exact (name_use {b = b} h) = exact_name_use tokens b h
-  exact (parens {b = b} h s i) = exact_parens tokens b h s i (exact s)
-  exact (func_literal {b = b} h s t) = exact_func_literal tokens b h s t (exact s) (exact t)
-  exact (composite {b = b} h s t) = exact_composite tokens b h s t (exact s) (exact t)
-  exact (open_composite {b = b} h i j s t) = exact_open_composite tokens b h i j s t (exact s) (exact t)
-  exact (bare_composite s t) = exact_bare_composite tokens s t (exact s) (exact t)
-  exact (conversion {b = b} h s i t c j) = exact_conversion tokens b h s i t c j (exact s) (exact t)
-  exact (selector s h i) = exact_selector tokens s h i (exact s)
-  exact (index s h t i) = exact_index tokens s h t i (exact s) (exact t)
-  exact (slice_all s h i j) = exact_slice_all tokens s h i j (exact s)
-  exact (slice_from s h t i j) = exact_slice_from tokens s h t i j (exact s) (exact t)
-  exact (slice_to s h i t j) = exact_slice_to tokens s h i t j (exact s) (exact t)
-  exact (slice_between s h t i u j) = exact_slice_between tokens s h t i u j (exact s) (exact t) (exact u)
-  exact (slice_to_max s h i t j u k) = exact_slice_to_max tokens s h i t j u k (exact s) (exact t) (exact u)
-  exact (slice_between_max s h t i u j v k) = exact_slice_between_max tokens s h t i u j v k (exact s) (exact t) (exact u) (exact v)
-  exact (assertion s h i t j) = exact_assertion tokens s h i t j (exact s) (exact t)
-  exact (call_none s h i) = exact_call_none tokens s h i (exact s)
-  exact (call s h t c i) = exact_call tokens s h t c i (exact s) (exact t)
-  exact (spread_call s h t i c j) = exact_spread_call tokens s h t i c j (exact s) (exact t)
+  exact (parens {b = b} h s i) = λ types n out enough brace. exact_parens tokens b h s i (exact s) types n out enough
+  exact (func_literal {b = b} h s t) = λ types n out enough brace. exact_func_literal tokens b h s t (exact s) (exact t) types n out enough
+  exact (composite {b = b} h s t) = λ types n out enough brace. exact_composite tokens b h s t (exact s) (exact t) types n out enough
+  exact (open_composite {b = b} h i j s t) = λ types n out enough brace. exact_open_composite tokens b h i j s t (exact s) (exact t) types n out enough
+  exact (bare_composite s t) = λ types n out enough brace. exact_bare_composite tokens s t (exact s) (exact t) types n out enough
+  exact (conversion {b = b} h s i t c j) = λ types n out enough brace. exact_conversion tokens b h s i t c j (exact s) (exact t) types n out enough
+  exact (selector s h i) = λ types n out enough brace. exact_selector tokens s h i (exact s) types n out enough brace.here
+  exact (index s h t i) = λ types n out enough brace. exact_index tokens s h t i (exact s) (exact t) types n out enough
+  exact (slice_all s h i j) = λ types n out enough brace. exact_slice_all tokens s h i j (exact s) types n out enough
+  exact (slice_from s h t i j) = λ types n out enough brace. exact_slice_from tokens s h t i j (exact s) (exact t) types n out enough
+  exact (slice_to s h i t j) = λ types n out enough brace. exact_slice_to tokens s h i t j (exact s) (exact t) types n out enough
+  exact (slice_between s h t i u j) = λ types n out enough brace. exact_slice_between tokens s h t i u j (exact s) (exact t) (exact u) types n out enough
+  exact (slice_to_max s h i t j u k) = λ types n out enough brace. exact_slice_to_max tokens s h i t j u k (exact s) (exact t) (exact u) types n out enough
+  exact (slice_between_max s h t i u j v k) = λ types n out enough brace. exact_slice_between_max tokens s h t i u j v k (exact s) (exact t) (exact u) (exact v) types n out enough
+  exact (assertion s h i t j) = λ types n out enough brace. exact_assertion tokens s h i t j (exact s) (exact t) types n out enough
+  exact (call_none s h i) = λ types n out enough brace. exact_call_none tokens s h i (exact s) types n out enough
+  exact (call s h t c i) = λ types n out enough brace. exact_call tokens s h t c i (exact s) (exact t) types n out enough
+  exact (spread_call s h t i c j) = λ types n out enough brace. exact_spread_call tokens s h t i c j (exact s) (exact t) types n out enough
   exact (last_expr s) = exact_last_expr tokens s (exact s)
   exact (one_expr s h t) = exact_one_expr tokens s h t (exact s) (exact t)
   exact (either_expr s) = exact_either_expr tokens s (exact s)
