@@ -1,4 +1,5 @@
 pub mod Exact
+pub mod Far
 pub mod Steps
 pub mod Growing
 pub mod GrowingTypes

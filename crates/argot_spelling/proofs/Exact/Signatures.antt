@@ -30,7 +30,7 @@ and_false true = refl
 and_false false = refl
 
 module _ (tokens : List Token) where
-  params_end : {b : Bool} {x : Forest} {from to : ℕ} → Spells tokens (Params b) x from to → from < to
+  pub params_end : {b : Bool} {x : Forest} {from to : ℕ} → Spells tokens (Params b) x from to → from < to
   params_end (no_params h i) = omega arith
   params_end (params h s c i) = omega (arith, ahead tokens s, comma_ahead tokens c)
   params_end (named_params h s c i) = omega (arith, ahead tokens s, comma_ahead tokens c)
