@@ -47,6 +47,7 @@ fn listed(
     mark: usize,
     at: usize,
 ) -> Result<Option<usize>, Memory>
+    requires { mark ≤ vec_len out.old.posts }
     ensures { IfOk result (λ r. Settles mark out.old.posts.items r out.new.posts.items (listed_by tokens.now (read tokens.now fuel) from mark (at, out.old.posts.items))) }
 {
     if ranges(tokens, at) {
@@ -68,6 +69,7 @@ fn opened(
     mark: usize,
     at: usize,
 ) -> Result<Option<usize>, Memory>
+    requires { mark ≤ vec_len out.old.posts }
     ensures { IfOk result (λ r. Settles mark out.old.posts.items r out.new.posts.items (opened_by tokens.now (read tokens.now fuel) from mark (at, out.old.posts.items))) }
 {
     if is_mark(tokens, at, Mark::OpenBrace) || guards(tokens, at) {
@@ -117,6 +119,7 @@ fn condition_behind(
     mark: usize,
     at: usize,
 ) -> Result<Option<usize>, Memory>
+    requires { mark ≤ vec_len out.old.posts }
     ensures { IfOk result (λ r. Settles mark out.old.posts.items r out.new.posts.items (condition_behind_by tokens.now (read tokens.now fuel) from mark (at, out.old.posts.items))) }
 {
     if semicolon_at(tokens, at) {

@@ -10,6 +10,7 @@ mod blocks;
 mod declarations;
 mod elements;
 mod expressions;
+mod fault;
 mod fields;
 mod heads;
 mod linking;
@@ -25,6 +26,7 @@ mod switches;
 mod types;
 mod writer;
 
+pub use fault::ParseFault;
 pub use linking::link;
 pub use nesting::first_too_deep;
 

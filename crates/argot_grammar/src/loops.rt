@@ -82,7 +82,8 @@ fn received(
     mark: usize,
     at: usize,
 ) -> Result<Option<usize>, Memory>
-    requires { from < length tokens.now }
+    requires within { from < length tokens.now }
+    requires marked { mark ≤ vec_len out.old.posts }
     ensures { IfOk result (λ r. Settles mark out.old.posts.items r out.new.posts.items (received_by tokens.now (read tokens.now fuel) from mark (at, out.old.posts.items))) }
 {
     if is_mark(tokens, at, Mark::Assign) {
@@ -116,7 +117,8 @@ fn comm_behind(
     mark: usize,
     at: usize,
 ) -> Result<Option<usize>, Memory>
-    requires { from < length tokens.now }
+    requires within { from < length tokens.now }
+    requires marked { mark ≤ vec_len out.old.posts }
     ensures { IfOk result (λ r. Settles mark out.old.posts.items r out.new.posts.items (comm_behind_by tokens.now (read tokens.now fuel) from mark (at, out.old.posts.items))) }
 {
     if is_mark(tokens, at, Mark::Arrow) {
@@ -208,6 +210,7 @@ fn loop_body(
     mark: usize,
     at: usize,
 ) -> Result<Option<usize>, Memory>
+    requires { mark ≤ vec_len out.old.posts }
     ensures { IfOk result (λ r. Settles mark out.old.posts.items r out.new.posts.items (loop_by tokens.now (read tokens.now fuel) kind from mark (at, out.old.posts.items))) }
 {
     let Some(to) = block(tokens, out, fuel, at)? else {
@@ -228,6 +231,7 @@ fn for_parts(
     mark: usize,
     at: usize,
 ) -> Result<Option<usize>, Memory>
+    requires { mark ≤ vec_len out.old.posts }
     ensures { IfOk result (λ r. Settles mark out.old.posts.items r out.new.posts.items (parts_by tokens.now (read tokens.now fuel) from mark (at, out.old.posts.items))) }
 {
     let Some(condition) = maybe_condition(tokens, out, fuel, at)? else {
@@ -246,7 +250,7 @@ fn for_parts(
     loop_body(tokens, out, fuel, NodeKind::For, from, mark, post)
 }
 
-// A `for` from `range` on.
+// A `for` behind its `range`.
 #[cycle(reading)]
 fn range(
     tokens: &[Token],
@@ -257,10 +261,10 @@ fn range(
     mark: usize,
     at: usize,
 ) -> Result<Option<usize>, Memory>
-    requires { at < length tokens.now }
+    requires { mark ≤ vec_len out.old.posts }
     ensures { IfOk result (λ r. Settles mark out.old.posts.items r out.new.posts.items (range_by tokens.now (read tokens.now fuel) kind from mark (at, out.old.posts.items))) }
 {
-    let Some(mid) = level(tokens, out, fuel, 1, false, at + 1)? else {
+    let Some(mid) = level(tokens, out, fuel, 1, false, at)? else {
         undo(out, mark);
         return Ok(None);
     };
@@ -285,7 +289,8 @@ fn looped(
     mark: usize,
     at: usize,
 ) -> Result<Option<usize>, Memory>
-    requires { from < length tokens.now }
+    requires within { from < length tokens.now }
+    requires marked { mark ≤ vec_len out.old.posts }
     ensures { IfOk result (λ r. Settles mark out.old.posts.items r out.new.posts.items (looped_by tokens.now (read tokens.now fuel) from mark (at, out.old.posts.items))) }
 {
     if semicolon_at(tokens, at) {
@@ -297,7 +302,7 @@ fn looped(
     }
     let kind = range_kind(tokens, at);
     close(out, NodeKind::Exprs, from + 1, at, mark)?;
-    range(tokens, out, fuel, kind, from, mark, at + 1)
+    range(tokens, out, fuel, kind, from, mark, at + 2)
 }
 
 /// A `for`.
@@ -313,7 +318,7 @@ pub fn for_stmt(
 {
     let mark = out.posts.len();
     if range_at(tokens, at + 1) {
-        return range(tokens, out, fuel, NodeKind::Range, at, mark, at + 1);
+        return range(tokens, out, fuel, NodeKind::Range, at, mark, at + 2);
     }
     if semicolon_at(tokens, at + 1) {
         put_empty(out, NodeKind::Init, at + 1)?;

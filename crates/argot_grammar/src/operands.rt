@@ -6,11 +6,11 @@ ghost use Rattle.argot_spelling.specs.Reading.{The, OperandOr, Gives, Settles, c
 ghost use Rattle.argot_spelling.specs.ExpressionReader.{is_open_array, name_use_by, name_by, parens_by, func_by, behind_signature_by, open_array_by, type_operand_by, behind_type_by, converted_by};
 ghost use Rattle.argot_spelling.specs.Reader.{read};
 
+use crate::blocks::block;
 use crate::elements::elems;
 use crate::expressions::{either, level};
 use crate::peek::{composite_at, conversion_at, is_mark, is_name, is_word, literal_at};
 use crate::signatures::signature;
-use crate::blocks::block;
 use crate::types::{any_type, named_type, only_type};
 use crate::writer::{Writer, close, expect, expect_list, keep, missing, put, undo};
 use argot_text::Memory;
@@ -150,6 +150,7 @@ fn behind_signature(
     mark: usize,
     at: usize,
 ) -> Result<Option<usize>, Memory>
+    requires { mark ≤ vec_len out.old.posts }
     ensures { IfOk result (λ r. Settles mark out.old.posts.items r out.new.posts.items (behind_signature_by tokens.now (read tokens.now fuel) types from mark (at, out.old.posts.items))) }
 {
     if !is_mark(tokens, at, Mark::OpenBrace) {
@@ -215,6 +216,7 @@ fn behind_type(
     mark: usize,
     at: usize,
 ) -> Result<Option<usize>, Memory>
+    requires { mark ≤ vec_len out.old.posts }
     ensures { IfOk result (λ r. Settles mark out.old.posts.items r out.new.posts.items (behind_type_by tokens.now (read tokens.now fuel) types from mark (at, out.old.posts.items))) }
 {
     if !(composite_at(tokens, from) && is_mark(tokens, at, Mark::OpenBrace)) {
@@ -237,6 +239,7 @@ fn converted(
     mark: usize,
     at: usize,
 ) -> Result<Option<usize>, Memory>
+    requires { mark ≤ vec_len out.old.posts }
     ensures { IfOk result (λ r. Settles mark out.old.posts.items r out.new.posts.items (converted_by tokens.now (read tokens.now fuel) types from mark (at, out.old.posts.items))) }
 {
     if !is_mark(tokens, at, Mark::OpenParen) {

@@ -210,6 +210,7 @@ pub fn more_expressions_behind(
     mark: usize,
     at: usize,
 ) -> Result<Option<usize>, Memory>
+    requires { mark ≤ vec_len out.old.posts }
     ensures { IfOk result (λ r. Settles mark out.old.posts.items r out.new.posts.items (more_by tokens.now (read tokens.now fuel) bare (at, out.old.posts.items))) }
 {
     if !is_mark(tokens, at, Mark::Comma) {
@@ -233,7 +234,8 @@ fn assigned(
     mark: usize,
     at: usize,
 ) -> Result<Option<usize>, Memory>
-    requires { at < length tokens.now }
+    requires within { at < length tokens.now }
+    requires marked { mark ≤ vec_len out.old.posts }
     ensures { IfOk result (λ r. Settles mark out.old.posts.items r out.new.posts.items (assigned_by tokens.now (read tokens.now fuel) kind bare from mark (at, out.old.posts.items))) }
 {
     close(out, NodeKind::Exprs, from, at, mark)?;
@@ -256,6 +258,7 @@ pub fn assign(
     mark: usize,
     at: usize,
 ) -> Result<Option<usize>, Memory>
+    requires { mark ≤ vec_len out.old.posts }
     ensures { IfOk result (λ r. Settles mark out.old.posts.items r out.new.posts.items (assign_by tokens.now (read tokens.now fuel) bare from mark (at, out.old.posts.items))) }
 {
     if is_mark(tokens, at, Mark::Assign) {
@@ -280,6 +283,7 @@ pub fn simple_behind(
     mark: usize,
     at: usize,
 ) -> Result<Option<usize>, Memory>
+    requires { mark ≤ vec_len out.old.posts }
     ensures { IfOk result (λ r. Settles mark out.old.posts.items r out.new.posts.items (simple_behind_by tokens.now (read tokens.now fuel) bare from mark (at, out.old.posts.items))) }
 {
     if is_mark(tokens, at, Mark::Arrow) {

@@ -103,6 +103,7 @@ fn end_bracket(
     begun: usize,
     at: usize,
 ) -> Result<Option<usize>, Memory>
+    requires { begun ≤ vec_len out.old.posts }
     ensures { IfOk result (λ r. Settles begun out.old.posts.items r out.new.posts.items (bracket_end tokens.now kind from mark (at, out.old.posts.items))) }
 {
     let Some(to) = expect(tokens, out, at, Mark::CloseBracket, begun) else {
@@ -124,7 +125,8 @@ fn third(
     begun: usize,
     at: usize,
 ) -> Result<Option<usize>, Memory>
-    requires { at < length tokens.now }
+    requires within { at < length tokens.now }
+    requires marked { begun ≤ vec_len out.old.posts }
     ensures { IfOk result (λ r. Settles begun out.old.posts.items r out.new.posts.items (third_by tokens.now (read tokens.now fuel) kind from mark (at, out.old.posts.items))) }
 {
     let Some(to) = level(tokens, out, fuel, 1, true, at + 1)? else {
@@ -147,6 +149,7 @@ fn second(
     begun: usize,
     at: usize,
 ) -> Result<Option<usize>, Memory>
+    requires { begun ≤ vec_len out.old.posts }
     ensures { IfOk result (λ r. Settles begun out.old.posts.items r out.new.posts.items (second_by tokens.now (read tokens.now fuel) kind with_max from mark (at, out.old.posts.items))) }
 {
     if is_mark(tokens, at, Mark::Colon) {
@@ -200,6 +203,7 @@ fn behind_first(
     begun: usize,
     at: usize,
 ) -> Result<Option<usize>, Memory>
+    requires { begun ≤ vec_len out.old.posts }
     ensures { IfOk result (λ r. Settles begun out.old.posts.items r out.new.posts.items (behind_first_by tokens.now (read tokens.now fuel) from mark (at, out.old.posts.items))) }
 {
     if !is_mark(tokens, at, Mark::Colon) {
@@ -281,6 +285,7 @@ fn end_arguments(
     begun: usize,
     at: usize,
 ) -> Result<Option<usize>, Memory>
+    requires { begun ≤ vec_len out.old.posts }
     ensures { IfOk result (λ r. Settles begun out.old.posts.items r out.new.posts.items (arguments_by tokens.now from mark (at, out.old.posts.items))) }
 {
     if is_mark(tokens, at, Mark::Ellipsis) {

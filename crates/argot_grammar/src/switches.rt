@@ -4,7 +4,7 @@
 ghost use Rattle.std.specs.Prelude.{◌≡◌, ◌<◌, ◌≤◌, ◌+◌, ◌-◌, ◌^◌, length, IfOk, OnOk, IfSome, IfNone, Option, Some, None, vec_len, take, reverse, [], ◌∷◌, IsTrue, Bool, true, false, if◌then◌else◌};
 ghost use Rattle.argot_tree.specs.Grammar.{Cases, Case};
 ghost use Rattle.argot_spelling.specs.Reading.{The, Gives, Settles, closed, put};
-ghost use Rattle.argot_spelling.specs.StatementReader.{is_operation, is_primary, switched_by, tagged_by, named_guard_by, tag_by, init_by, defined_by, opened_switch_by, switch_by, clause_by, case_by};
+ghost use Rattle.argot_spelling.specs.StatementReader.{is_operation, is_primary, switched_by, tagged_by, named_guard_by, tag_by, init_by, defined_by, opened_switch_by, head_by, switch_by, clause_by, case_by};
 ghost use Rattle.argot_spelling.specs.Reader.{read};
 
 use crate::blocks::stmts;
@@ -54,6 +54,7 @@ fn switched(
     mark: usize,
     at: usize,
 ) -> Result<Option<usize>, Memory>
+    requires { mark ≤ vec_len out.old.posts }
     ensures { IfOk result (λ r. Settles mark out.old.posts.items r out.new.posts.items (switched_by tokens.now (read tokens.now fuel) kind from mark (at, out.old.posts.items))) }
 {
     if !is_mark(tokens, at, Mark::OpenBrace) {
@@ -84,6 +85,7 @@ fn tagged(
     since: usize,
     at: usize,
 ) -> Result<Option<usize>, Memory>
+    requires { mark ≤ vec_len out.old.posts }
     ensures { IfOk result (λ r. Settles mark out.old.posts.items r out.new.posts.items (tagged_by tokens.now (read tokens.now fuel) from mark start since (at, out.old.posts.items))) }
 {
     if !guards(tokens, at) {
@@ -109,7 +111,8 @@ fn named_guard(
     since: usize,
     at: usize,
 ) -> Result<Option<usize>, Memory>
-    requires { (start + 1 < length tokens.now) × (since ≤ vec_len out.old.posts) }
+    requires within { start + 1 < length tokens.now }
+    requires marked { mark ≤ vec_len out.old.posts }
     ensures { IfOk result (λ r. Settles mark out.old.posts.items r out.new.posts.items (named_guard_by tokens.now (read tokens.now fuel) from mark start since (at, out.old.posts.items))) }
 {
     if !(guards(tokens, at) && is_primary(&out.posts)) {
@@ -132,7 +135,8 @@ fn switch_tag(
     mark: usize,
     at: usize,
 ) -> Result<Option<usize>, Memory>
-    ensures { IfOk result (λ r. Settles mark out.old.posts.items r out.new.posts.items (tag_by tokens.now (read tokens.now fuel) from mark (at, out.old.posts.items))) }
+    requires { mark ≤ vec_len out.old.posts }
+    ensures { IfOk result (λ r. Settles mark out.old.posts.items r out.new.posts.items (tag_by tokens.now (read tokens.now fuel) from mark at out.old.posts.items)) }
 {
     if is_mark(tokens, at, Mark::OpenBrace) {
         return switched(tokens, out, fuel, NodeKind::Switch, from, mark, at);
@@ -160,17 +164,18 @@ fn after_init(
     fuel: usize,
     from: usize,
     mark: usize,
+    start: usize,
     at: usize,
 ) -> Result<Option<usize>, Memory>
-    requires { from < length tokens.now }
-    ensures { IfOk result (λ r. Settles mark out.old.posts.items r out.new.posts.items (init_by tokens.now (read tokens.now fuel) from mark (at, out.old.posts.items))) }
+    requires { mark ≤ vec_len out.old.posts }
+    ensures { IfOk result (λ r. Settles mark out.old.posts.items r out.new.posts.items (init_by tokens.now (read tokens.now fuel) from mark start (at, out.old.posts.items))) }
 {
     if !semicolon_at(tokens, at) {
         missing(out, at);
         undo(out, mark);
         return Ok(None);
     }
-    close(out, NodeKind::Init, from + 1, at, mark)?;
+    close(out, NodeKind::Init, start, at, mark)?;
     switch_tag(tokens, out, fuel, from, mark, at + 1)
 }
 
@@ -182,21 +187,23 @@ fn defined(
     fuel: usize,
     from: usize,
     mark: usize,
+    start: usize,
     at: usize,
 ) -> Result<Option<usize>, Memory>
-    requires { (from + 2 < length tokens.now) × (mark + 2 ≤ vec_len out.old.posts) }
-    ensures { IfOk result (λ r. Settles mark out.old.posts.items r out.new.posts.items (defined_by tokens.now (read tokens.now fuel) from mark (at, out.old.posts.items))) }
+    requires within { start + 1 < length tokens.now }
+    requires marked { mark + 2 ≤ vec_len out.old.posts }
+    ensures { IfOk result (λ r. Settles mark out.old.posts.items r out.new.posts.items (defined_by tokens.now (read tokens.now fuel) from mark start (at, out.old.posts.items))) }
 {
     if guards(tokens, at) {
         out.posts.remove(mark + 1);
-        return named_guard(tokens, out, fuel, from, mark, from + 1, mark, at);
+        return named_guard(tokens, out, fuel, from, mark, start, mark, at);
     }
     let Some(to) = more_expressions_behind(tokens, out, fuel, false, mark, at)? else {
         return Ok(None);
     };
-    close(out, NodeKind::Exprs, from + 3, to, mark + 2)?;
-    close(out, NodeKind::Define, from + 1, to, mark)?;
-    after_init(tokens, out, fuel, from, mark, to)
+    close(out, NodeKind::Exprs, start + 2, to, mark + 2)?;
+    close(out, NodeKind::Define, start, to, mark)?;
+    after_init(tokens, out, fuel, from, mark, start, to)
 }
 
 #[cycle(reading)]
@@ -206,15 +213,16 @@ fn opened_switch(
     fuel: usize,
     from: usize,
     mark: usize,
+    start: usize,
     at: usize,
 ) -> Result<Option<usize>, Memory>
-    requires { from < length tokens.now }
-    ensures { IfOk result (λ r. Settles mark out.old.posts.items r out.new.posts.items (opened_switch_by tokens.now (read tokens.now fuel) from mark (at, out.old.posts.items))) }
+    requires { mark ≤ vec_len out.old.posts }
+    ensures { IfOk result (λ r. Settles mark out.old.posts.items r out.new.posts.items (opened_switch_by tokens.now (read tokens.now fuel) from mark start (at, out.old.posts.items))) }
 {
     if semicolon_at(tokens, at) {
-        return after_init(tokens, out, fuel, from, mark, at);
+        return after_init(tokens, out, fuel, from, mark, start, at);
     }
-    tagged(tokens, out, fuel, from, mark, from + 1, mark, at)
+    tagged(tokens, out, fuel, from, mark, start, mark, at)
 }
 
 /// A `switch`.
@@ -228,27 +236,41 @@ pub fn switch_stmt(
     requires { at < length tokens.now }
     ensures { IfOk result (λ r. Gives out.old.posts.items r out.new.posts.items (switch_by tokens.now (read tokens.now fuel) at out.old.posts.items)) }
 {
+    switch_head(tokens, out, fuel, at, at + 1)
+}
+
+// A `switch` whose head begins at `start`.
+#[cycle(reading)]
+fn switch_head(
+    tokens: &[Token],
+    out: &mut Writer,
+    fuel: usize,
+    from: usize,
+    start: usize,
+) -> Result<Option<usize>, Memory>
+    ensures { IfOk result (λ r. Gives out.old.posts.items r out.new.posts.items (head_by tokens.now (read tokens.now fuel) from start out.old.posts.items)) }
+{
     let mark = out.posts.len();
-    if semicolon_at(tokens, at + 1) {
-        put_empty(out, NodeKind::Init, at + 1)?;
-        return switch_tag(tokens, out, fuel, at, mark, at + 2);
+    if semicolon_at(tokens, start) {
+        put_empty(out, NodeKind::Init, start)?;
+        return switch_tag(tokens, out, fuel, from, mark, start + 1);
     }
-    if is_mark(tokens, at + 1, Mark::OpenBrace) {
-        return switched(tokens, out, fuel, NodeKind::Switch, at, mark, at + 1);
+    if is_mark(tokens, start, Mark::OpenBrace) {
+        return switched(tokens, out, fuel, NodeKind::Switch, from, mark, start);
     }
-    if is_name(tokens, at + 1) && is_mark(tokens, at + 2, Mark::Define) {
-        put(out, NodeKind::DeclName, at + 1, at + 2)?;
-        close(out, NodeKind::Names, at + 1, at + 2, mark)?;
-        let Some(mid) = level(tokens, out, fuel, 1, false, at + 3)? else {
+    if is_name(tokens, start) && is_mark(tokens, start + 1, Mark::Define) {
+        put(out, NodeKind::DeclName, start, start + 1)?;
+        close(out, NodeKind::Names, start, start + 1, mark)?;
+        let Some(mid) = level(tokens, out, fuel, 1, false, start + 2)? else {
             undo(out, mark);
             return Ok(None);
         };
-        return defined(tokens, out, fuel, at, mark, mid);
+        return defined(tokens, out, fuel, from, mark, start, mid);
     }
-    let Some(mid) = opening(tokens, out, fuel, at + 1)? else {
+    let Some(mid) = opening(tokens, out, fuel, start)? else {
         return Ok(None);
     };
-    opened_switch(tokens, out, fuel, at, mark, mid)
+    opened_switch(tokens, out, fuel, from, mark, start, mid)
 }
 
 /// A clause from its colon on.
@@ -262,6 +284,7 @@ pub fn clause(
     mark: usize,
     at: usize,
 ) -> Result<Option<usize>, Memory>
+    requires { mark ≤ vec_len out.old.posts }
     ensures { IfOk result (λ r. Settles mark out.old.posts.items r out.new.posts.items (clause_by tokens.now (read tokens.now fuel) kind from mark (at, out.old.posts.items))) }
 {
     if !is_mark(tokens, at, Mark::Colon) {

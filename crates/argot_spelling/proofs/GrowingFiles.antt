@@ -4,7 +4,7 @@ use Rattle.argot_tree.specs.declared.token.Token.{Token}
 use Rattle.argot_tree.specs.declared.token.TokenKind.{TokenKind}
 use Rattle.argot_spelling.specs.declared.post.Post.{Post}
 use Rattle.argot_spelling.specs.Reading.{Task, Reader}
-use Rattle.argot_spelling.specs.FileReader.{func_parts_by, file_by, imports_by, import_by, specs_by, spec_by, tops_by, top_by, maybe_receiver_by, receiver_by, maybe_type_params_by, type_params_by, balanced_by, maybe_body_by}
+use Rattle.argot_spelling.specs.FileReader.{func_parts_by, file_by, imports_by, import_by, specs_by, spec_by, tops_by, top_by, maybe_receiver_by, receiver_by, maybe_type_params_by, type_params_by, in_brackets_by, balanced_by, maybe_body_by}
 use Rattle.argot_spelling.proofs.Growing.{AlwaysGrows, Grows, Extends, growing, by}
 
 module _ (tokens : List Token) (rec : Reader) (g : AlwaysGrows rec) where
@@ -47,6 +47,9 @@ module _ (tokens : List Token) (rec : Reader) (g : AlwaysGrows rec) where
 
     pub type_params_grows : Grows out (type_params_by tokens rec at out)
     type_params_grows = search (growing, further) depth 40 fits 20000
+
+    pub in_brackets_grows : Grows out (in_brackets_by tokens rec at out)
+    in_brackets_grows = search (growing, further) depth 40 fits 20000
 
     pub balanced_grows : Grows out (balanced_by tokens rec at out)
     balanced_grows = search (growing, further) depth 40 fits 20000

@@ -7,14 +7,32 @@ use Rattle.argot_tree.specs.declared.mark.Mark.TheVariants as marks
 use Rattle.argot_tree.specs.declared.token.TokenKind.TheVariants as kinds
 use Rattle.argot_spelling.specs.declared.post.Post.{Post}
 use Rattle.argot_spelling.specs.Reading.{Task, Reader}
-use Rattle.argot_spelling.specs.StatementReader.{block_by, stmts_by, stmt_by, labels_by, simple_by, maybe_label_by, ifs_by, cases_by, case_by, comms_by, comm_by, maybe_condition_by, maybe_post_by}
-use Rattle.argot_spelling.proofs.Growing.{AlwaysGrows, Grows, Extends, growing, by}
+use Rattle.argot_spelling.specs.StatementReader.{more_by, opening_by, condition_by, assign_by, simple_behind_by, block_by, stmts_by, stmt_by, labels_by, simple_by, maybe_label_by, ifs_by, cases_by, case_by, comms_by, comm_by, maybe_condition_by, maybe_post_by}
+use Rattle.argot_spelling.proofs.Growing.{AlwaysGrows, Grows, Extends, growing, by, same}
 
 module _ (tokens : List Token) (rec : Reader) (g : AlwaysGrows rec) where
   further : (old out : List Post) (task : Task) (at : ℕ) → Extends old out → Grows old (rec task at out)
   further old out task at p = by task at g p
 
+  behind_grows : (bare : Bool) (from mark : ℕ) (old : List Post) (r : ℕ × List Post) → Extends old r.1 → Grows old (simple_behind_by tokens rec bare from mark r)
+  behind_grows bare from mark old r p = search (growing, further) depth 40 fits 20000
+
   module _ (at : ℕ) (out : List Post) where
+    pub more_grows : (bare : Bool) → Grows out (more_by tokens rec bare (at, out))
+    more_grows bare = search (growing, further, same out) depth 40 fits 20000
+
+    pub opening_grows : Grows out (opening_by tokens rec at out)
+    opening_grows = search (growing, further) depth 40 fits 20000
+
+    pub condition_grows : Grows out (condition_by tokens rec at out)
+    condition_grows = search (growing, further) depth 40 fits 20000
+
+    pub assign_grows : (bare : Bool) (from mark : ℕ) → Grows out (assign_by tokens rec bare from mark (at, out))
+    assign_grows bare from mark = search (growing, further, same out) depth 40 fits 20000
+
+    pub simple_behind_grows : (bare : Bool) (from mark : ℕ) → Grows out (simple_behind_by tokens rec bare from mark (at, out))
+    simple_behind_grows bare from mark = behind_grows bare from mark out (at, out) (same out)
+
     pub block_grows : Grows out (block_by tokens rec at out)
     block_grows = search (growing, further) depth 40 fits 20000
 

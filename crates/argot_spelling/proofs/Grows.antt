@@ -1,5 +1,5 @@
 -- What is read is put behind what was there.
-use Rattle.std.proofs.Common.{◌≡◌, ℕ, zero, suc, ◌≤◌, List, [], ◌++◌, length, take, false, Some, None, refl, ap, ◌∙◌, arith, length-append}
+use Rattle.std.proofs.Common.{◌≡◌, ℕ, zero, suc, ◌≤◌, List, [], ◌++◌, length, take, Bool, false, Some, None, refl, ap, ◌∙◌, arith, length-append}
 use Rattle.std.proofs.lemmas.List.{take_at, take_all}
 use Rattle.argot_tree.specs.declared.token.Token.{Token}
 use Rattle.argot_tree.specs.TokensAt.{kind_at}
@@ -8,13 +8,15 @@ use Rattle.argot_spelling.specs.declared.post.Post.{Post}
 use Rattle.argot_spelling.specs.Reading.{Task, The, UnaryOr, PrimaryOr, OperandOr, Climb, Suffixes, MoreExprs, Ifs, Labels, Answer, Reader}
 use Rattle.argot_spelling.specs.TypeReader.{named_type_by, embedded_by, tag_by, result_by}
 use Rattle.argot_spelling.specs.ExpressionReader.{suffix_by}
+use Rattle.argot_spelling.specs.StatementReader.{more_by, opening_by, condition_by, assign_by, simple_behind_by}
+use Rattle.argot_spelling.specs.FileReader.{in_brackets_by}
 use Rattle.argot_spelling.specs.Reader.{part_by, step, read}
 use Rattle.argot_spelling.proofs.Growing.{AlwaysGrows, Grows, Extends, same}
-use Rattle.argot_spelling.proofs.GrowingFiles.{file_grows, imports_grows, import_grows, specs_grows, spec_grows, tops_grows, top_grows, receiver_grows, maybe_receiver_grows, maybe_type_params_grows, maybe_body_grows, type_params_grows, balanced_grows}
+use Rattle.argot_spelling.proofs.GrowingFiles.{file_grows, imports_grows, import_grows, specs_grows, spec_grows, tops_grows, top_grows, receiver_grows, maybe_receiver_grows, maybe_type_params_grows, maybe_body_grows, type_params_grows, balanced_grows, in_brackets_grows}
 use Rattle.argot_spelling.proofs.GrowingDeclarations.{decl_grows, declared_grows, declared_list_grows, maybe_typed_grows, maybe_values_grows}
 use Rattle.argot_spelling.proofs.GrowingTypes.{named_grows, result_grows, names_grows, signature_grows, params_grows, types_grows, named_list_grows, type_grows, formed_grows, fields_grows, field_grows, embedded_grows, tag_grows, elements_grows, element_grows}
 use Rattle.argot_spelling.proofs.GrowingExpressions.{level_grows, unary_grows, primary_grows, operand_grows, exprs_grows, either_grows, eithers_grows, elems_grows, items_grows, item_grows, value_grows, climb_grows, suffix_grows, suffixes_grows, more_exprs_grows}
-use Rattle.argot_spelling.proofs.GrowingStatements.{block_grows, stmts_grows, stmt_grows, simple_grows, maybe_label_grows, cases_grows, case_grows, comms_grows, comm_grows, maybe_condition_grows, maybe_post_grows, ifs_grows, labels_grows}
+use Rattle.argot_spelling.proofs.GrowingStatements.{more_grows, opening_grows, condition_grows, assign_grows, simple_behind_grows, block_grows, stmts_grows, stmt_grows, simple_grows, maybe_label_grows, cases_grows, case_grows, comms_grows, comm_grows, maybe_condition_grows, maybe_post_grows, ifs_grows, labels_grows}
 
 module _ (tokens : List Token) where
   module _ (rec : Reader) (g : AlwaysGrows rec) where
@@ -132,3 +134,27 @@ kept_tag tokens at out =
 pub kept_result : (tokens : List Token) (n at : ℕ) (out : List Post) → (result_by tokens (read tokens n) (at, out) ≡ result_by tokens (read tokens n) (at, out)) × (take (length out) (nodes_of (result_by tokens (read tokens n) (at, out)) out) ≡ out) × (length out ≤ length (nodes_of (result_by tokens (read tokens n) (at, out)) out))
 kept_result tokens n at out =
     let a = after out (result_by tokens (read tokens n) (at, out)) (result_grows tokens (read tokens n) (grows tokens n) at out) in (refl, a.0, a.1)
+
+pub kept_brackets : (tokens : List Token) (n at : ℕ) (out : List Post) → (in_brackets_by tokens (read tokens n) at out ≡ in_brackets_by tokens (read tokens n) at out) × (take (length out) (nodes_of (in_brackets_by tokens (read tokens n) at out) out) ≡ out) × (length out ≤ length (nodes_of (in_brackets_by tokens (read tokens n) at out) out))
+kept_brackets tokens n at out =
+    let a = after out (in_brackets_by tokens (read tokens n) at out) (in_brackets_grows tokens (read tokens n) (grows tokens n) at out) in (refl, a.0, a.1)
+
+pub kept_more : (tokens : List Token) (n : ℕ) (bare : Bool) (at : ℕ) (out : List Post) → (more_by tokens (read tokens n) bare (at, out) ≡ more_by tokens (read tokens n) bare (at, out)) × (take (length out) (nodes_of (more_by tokens (read tokens n) bare (at, out)) out) ≡ out) × (length out ≤ length (nodes_of (more_by tokens (read tokens n) bare (at, out)) out))
+kept_more tokens n bare at out =
+    let a = after out (more_by tokens (read tokens n) bare (at, out)) (more_grows tokens (read tokens n) (grows tokens n) at out bare) in (refl, a.0, a.1)
+
+pub kept_opening : (tokens : List Token) (n : ℕ) (at : ℕ) (out : List Post) → (opening_by tokens (read tokens n) at out ≡ opening_by tokens (read tokens n) at out) × (take (length out) (nodes_of (opening_by tokens (read tokens n) at out) out) ≡ out) × (length out ≤ length (nodes_of (opening_by tokens (read tokens n) at out) out))
+kept_opening tokens n at out =
+    let a = after out (opening_by tokens (read tokens n) at out) (opening_grows tokens (read tokens n) (grows tokens n) at out) in (refl, a.0, a.1)
+
+pub kept_condition : (tokens : List Token) (n : ℕ) (at : ℕ) (out : List Post) → (condition_by tokens (read tokens n) at out ≡ condition_by tokens (read tokens n) at out) × (take (length out) (nodes_of (condition_by tokens (read tokens n) at out) out) ≡ out) × (length out ≤ length (nodes_of (condition_by tokens (read tokens n) at out) out))
+kept_condition tokens n at out =
+    let a = after out (condition_by tokens (read tokens n) at out) (condition_grows tokens (read tokens n) (grows tokens n) at out) in (refl, a.0, a.1)
+
+pub kept_assign : (tokens : List Token) (n : ℕ) (bare : Bool) (from mark : ℕ) (at : ℕ) (out : List Post) → (assign_by tokens (read tokens n) bare from mark (at, out) ≡ assign_by tokens (read tokens n) bare from mark (at, out)) × (take (length out) (nodes_of (assign_by tokens (read tokens n) bare from mark (at, out)) out) ≡ out) × (length out ≤ length (nodes_of (assign_by tokens (read tokens n) bare from mark (at, out)) out))
+kept_assign tokens n bare from mark at out =
+    let a = after out (assign_by tokens (read tokens n) bare from mark (at, out)) (assign_grows tokens (read tokens n) (grows tokens n) at out bare from mark) in (refl, a.0, a.1)
+
+pub kept_simple : (tokens : List Token) (n : ℕ) (bare : Bool) (from mark : ℕ) (at : ℕ) (out : List Post) → (simple_behind_by tokens (read tokens n) bare from mark (at, out) ≡ simple_behind_by tokens (read tokens n) bare from mark (at, out)) × (take (length out) (nodes_of (simple_behind_by tokens (read tokens n) bare from mark (at, out)) out) ≡ out) × (length out ≤ length (nodes_of (simple_behind_by tokens (read tokens n) bare from mark (at, out)) out))
+kept_simple tokens n bare from mark at out =
+    let a = after out (simple_behind_by tokens (read tokens n) bare from mark (at, out)) (simple_behind_grows tokens (read tokens n) (grows tokens n) at out bare from mark) in (refl, a.0, a.1)

@@ -63,15 +63,11 @@ signatures::named_params-loop-fuel-preserved-then-is_mark t c = record {
 pub expressions::climb-loop-fuel-preserved : goal.expressions::climb-loop-fuel-preserved
 expressions::climb-loop-fuel-preserved t c = record {
   reads = grind (arith, common_steps, read_more);
-  marked = grind (arith, common_steps, kept);
   fewer = omega arith;
 }
 
 pub fields::element-returns-in_default : goal.fields::element-returns-in_default
 fields::element-returns-in_default t c = grind (arith, common_steps, read_more, kept)
-
-pub fields::element-close-requires : goal.fields::element-close-requires
-fields::element-close-requires t c = grind (arith, common_steps, kept)
 
 pub fields::elements-returns-then-not-semicolon_at : goal.fields::elements-returns-then-not-semicolon_at
 fields::elements-returns-then-not-semicolon_at t c = grind (arith, common_steps, read_more, kept)
@@ -79,26 +75,11 @@ fields::elements-returns-then-not-semicolon_at t c = grind (arith, common_steps,
 pub fields::fields-returns-then-not-semicolon_at : goal.fields::fields-returns-then-not-semicolon_at
 fields::fields-returns-then-not-semicolon_at t c = grind (arith, common_steps, read_more, kept)
 
-pub fields::field-close-requires : goal.fields::field-close-requires
-fields::field-close-requires t c = grind (arith, common_steps, kept_embedded, kept_tag)
-
-pub fields::field-close-requires-2 : goal.fields::field-close-requires-2
-fields::field-close-requires-2 t c = grind (arith, common_steps, kept_embedded, kept_tag)
-
 pub fields::named_field-returns-in_default-2 : goal.fields::named_field-returns-in_default-2
 fields::named_field-returns-in_default-2 t c = grind (arith, common_steps, kept)
 
-pub fields::named_field-close-requires-2 : goal.fields::named_field-close-requires-2
-fields::named_field-close-requires-2 t c = grind (arith, common_steps, kept, kept_tag)
-
-pub operands::name_operand-close-requires : goal.operands::name_operand-close-requires
-operands::name_operand-close-requires t c = grind (arith, common_steps, kept, kept_named)
-
 pub operands::open_array-returns-in_default-2 : goal.operands::open_array-returns-in_default-2
 operands::open_array-returns-in_default-2 t c = grind (arith, common_steps, kept)
-
-pub operands::open_array-close-requires-2 : goal.operands::open_array-close-requires-2
-operands::open_array-close-requires-2 t c = grind (arith, common_steps, kept)
 
 pub signatures::named_params-returns-in_default : goal.signatures::named_params-returns-in_default
 signatures::named_params-returns-in_default t c = grind (arith, common_steps, read_more, kept)
@@ -106,17 +87,52 @@ signatures::named_params-returns-in_default t c = grind (arith, common_steps, re
 pub signatures::named_params-returns-in_default-2 : goal.signatures::named_params-returns-in_default-2
 signatures::named_params-returns-in_default-2 t c = grind (arith, common_steps, read_more, kept)
 
-pub signatures::named_params-close-requires-then-is_mark-2 : goal.signatures::named_params-close-requires-then-is_mark-2
-signatures::named_params-close-requires-then-is_mark-2 t c = grind (arith, common_steps, kept)
+pub blocks::stmts-loop-fuel-preserved : goal.blocks::stmts-loop-fuel-preserved
+blocks::stmts-loop-fuel-preserved t c = record {
+  reads = grind (arith, common_steps, read_more);
+  kept = grind (arith, common_steps, kept);
+  fewer = omega arith;
+}
 
-pub signatures::named_params-close-requires-in-loop-fuel : goal.signatures::named_params-close-requires-in-loop-fuel
-signatures::named_params-close-requires-in-loop-fuel t c = grind (arith, common_steps, kept)
+pub switches::cases-loop-fuel-preserved : goal.switches::cases-loop-fuel-preserved
+switches::cases-loop-fuel-preserved t c = record {
+  reads = grind (arith, common_steps, read_more);
+  kept = grind (arith, common_steps, kept);
+  fewer = omega arith;
+}
 
-pub signatures::signature-close-requires : goal.signatures::signature-close-requires
-signatures::signature-close-requires t c = grind (arith, common_steps, kept, kept_result)
+pub loops::comms-loop-fuel-preserved : goal.loops::comms-loop-fuel-preserved
+loops::comms-loop-fuel-preserved t c = record {
+  reads = grind (arith, common_steps, read_more);
+  kept = grind (arith, common_steps, kept);
+  fewer = omega arith;
+}
 
-pub suffixes::behind_first-returns : goal.suffixes::behind_first-returns
-suffixes::behind_first-returns t c = grind (arith, common_steps, kept)
+pub declarations::declared_list-loop-fuel-preserved : goal.declarations::declared_list-loop-fuel-preserved
+declarations::declared_list-loop-fuel-preserved t c = record {
+  reads = grind (arith, common_steps, read_more);
+  kept = grind (arith, common_steps, kept);
+  fewer = omega arith;
+}
 
-pub suffixes::third-returns : goal.suffixes::third-returns
-suffixes::third-returns t c = grind (arith, common_steps, kept)
+pub blocks::stmts-loop-fuel-preserved-then-semicolon_at : goal.blocks::stmts-loop-fuel-preserved-then-semicolon_at
+blocks::stmts-loop-fuel-preserved-then-semicolon_at t c = record {
+  reads = grind (arith, common_steps, read_more);
+  kept = grind (arith, common_steps, kept);
+  fewer = omega arith;
+}
+
+pub blocks::stmts-returns-then-not-semicolon_at : goal.blocks::stmts-returns-then-not-semicolon_at
+blocks::stmts-returns-then-not-semicolon_at t c = grind (arith, common_steps, read_more, kept)
+
+pub declarations::declared_list-returns-then-not-semicolon_at : goal.declarations::declared_list-returns-then-not-semicolon_at
+declarations::declared_list-returns-then-not-semicolon_at t c = grind (arith, common_steps, read_more, kept)
+
+pub declarations::variables-returns-in_default-2 : goal.declarations::variables-returns-in_default-2
+declarations::variables-returns-in_default-2 t c = grind (arith, common_steps, read_more, kept)
+
+pub declarations::variables-returns-in_default-3 : goal.declarations::variables-returns-in_default-3
+declarations::variables-returns-in_default-3 t c = grind (arith, common_steps, read_more, kept)
+
+pub declarations::variables-returns-in_default-4 : goal.declarations::variables-returns-in_default-4
+declarations::variables-returns-in_default-4 t c = grind (arith, common_steps, read_more, kept)
