@@ -17,6 +17,9 @@ module _ (tokens : List Token) (rec : Reader) (g : AlwaysGrows rec) where
   behind_grows : (bare : Bool) (from mark : ℕ) (old : List Post) (r : ℕ × List Post) → Extends old r.1 → Grows old (simple_behind_by tokens rec bare from mark r)
   behind_grows bare from mark old r p = search (growing, further) depth 40 fits 20000
 
+  assign_behind_grows : (bare : Bool) (from mark : ℕ) (old : List Post) (r : ℕ × List Post) → Extends old r.1 → Grows old (assign_by tokens rec bare from mark r)
+  assign_behind_grows bare from mark old r p = search (growing, further) depth 40 fits 20000
+
   module _ (at : ℕ) (out : List Post) where
     pub more_grows : (bare : Bool) → Grows out (more_by tokens rec bare (at, out))
     more_grows bare = search (growing, further, same out) depth 40 fits 20000
@@ -28,7 +31,7 @@ module _ (tokens : List Token) (rec : Reader) (g : AlwaysGrows rec) where
     condition_grows = search (growing, further) depth 40 fits 20000
 
     pub assign_grows : (bare : Bool) (from mark : ℕ) → Grows out (assign_by tokens rec bare from mark (at, out))
-    assign_grows bare from mark = search (growing, further, same out) depth 40 fits 20000
+    assign_grows bare from mark = assign_behind_grows bare from mark out (at, out) (same out)
 
     pub simple_behind_grows : (bare : Bool) (from mark : ℕ) → Grows out (simple_behind_by tokens rec bare from mark (at, out))
     simple_behind_grows bare from mark = behind_grows bare from mark out (at, out) (same out)
