@@ -112,6 +112,7 @@ fn named_guard(
     at: usize,
 ) -> Result<Option<usize>, Memory>
     requires within { start + 1 < length tokens.now }
+    requires begun { since ≤ vec_len out.old.posts }
     requires marked { mark ≤ vec_len out.old.posts }
     ensures { IfOk result (λ r. Settles mark out.old.posts.items r out.new.posts.items (named_guard_by tokens.now (read tokens.now fuel) from mark start since (at, out.old.posts.items))) }
 {
