@@ -10,9 +10,10 @@ use Rattle.argot_spelling.specs.Posts.{posts}
 use Rattle.argot_spelling.specs.Reading.{The, Answer}
 use Rattle.argot_spelling.specs.Reader.{read}
 use Rattle.argot_spelling.proofs.Sound.{reads_spelled}
+use Rattle.argot_spelling.proofs.Exact.Unique.{spelled_read}
 use Rattle.argot_parse.specs.Parsed.{SpellsNoTree, IsSyntax, IsUnparsed}
-use Rattle.argot_parse.specs.declared.parsing.ParseFault.{ParseFault}
-use Rattle.argot_parse.specs.declared.parsing.ParseFault.TheVariants as faults
+use Rattle.argot_grammar.specs.declared.fault.ParseFault.{ParseFault}
+use Rattle.argot_grammar.specs.declared.fault.ParseFault.TheVariants as faults
 use Rattle.argot_tree.specs.Nesting.{IsShallow}
 
 -- the nodes that were read are a tree that spells the tokens
@@ -20,10 +21,6 @@ pub file_tree : (tokens : List Token) (n to : ℕ) (old new : List Post) (nodes 
 file_tree tokens n to old new nodes none e end linked =
     let read_is = reads_spelled tokens n File 0 to old new e in
     (read_is.0, subst (λ t. Spells tokens File read_is.0 0 t) end read_is.1, linked read_is.0 (read_is.2 ∙ ap (λ l. l ++ posts read_is.0) none))
-
--- what a file is read as, if it is one
-spelled_read : (tokens : List Token) (x : Forest) (n : ℕ) → Spells tokens File x 0 (length tokens) → 32 * length tokens + 1 ≤ n → read tokens n (The File) 0 [] ≡ Some (length tokens, posts x)
-spelled_read tokens x n s enough = ?
 
 -- where no file is read, or not all of it, no tree spells the tokens
 pub unread : (tokens : List Token) (n : ℕ) (old : List Post) → old ≡ [] → 32 * length tokens + 1 ≤ n → read tokens n (The File) 0 old ≡ None → SpellsNoTree tokens

@@ -4,8 +4,8 @@ use Rattle.argot_tree.specs.declared.token.Token.{Token}
 use Rattle.argot_tree.specs.declared.tree.Tree.{Tree}
 use Rattle.argot_tree.specs.Nesting.{IsTooDeep, IsShallow}
 use Rattle.argot_tree.specs.Trees.{SpellsTree}
-use Rattle.argot_parse.specs.declared.parsing.ParseFault.{ParseFault}
-use Rattle.argot_parse.specs.declared.parsing.ParseFault.TheVariants as faults
+use Rattle.argot_grammar.specs.declared.fault.ParseFault.{ParseFault}
+use Rattle.argot_grammar.specs.declared.fault.ParseFault.TheVariants as faults
 
 -- no tree spells the tokens
 abbrev pub SpellsNoTree : List Token → Type 0

@@ -11,7 +11,8 @@ mod imports;
 mod parsing;
 mod receivers;
 
-pub use parsing::{ParseFault, parse};
+pub use argot_grammar::ParseFault;
+pub use parsing::parse;
 
 #[cfg(test)]
 mod tests;

@@ -5,37 +5,10 @@ ghost use Rattle.argot_tree.specs.Trees.{SpellsTree};
 ghost use Rattle.argot_parse.specs.Parsed.{IsSyntax, IsUnparsed};
 
 use crate::files::file;
-use argot_grammar::{Writer, first_too_deep, link};
-use argot_text::{Memory, Sequence};
+use argot_grammar::{ParseFault, Writer, first_too_deep, link};
+use argot_text::Sequence;
 use argot_tree::{Token, Tree};
 use std::alloc::Global;
-use thiserror::Error;
-
-/// Why tokens have no tree.
-#[derive(Debug, Drop, Error)]
-pub enum ParseFault {
-    /// No tree spells the tokens. This is the first token with which no file goes on as the tokens before it begin; the
-    /// number of tokens stands for the end of the file.
-    #[error("a syntax fault at token {token}")]
-    Syntax { token: u32 },
-    /// The first token that is nested deeper than 200.
-    #[error("token {token} is nested too deeply")]
-    TooDeep { token: u32 },
-    /// There was no memory left, or there are 2^32 tokens.
-    #[error("out of memory")]
-    Memory,
-}
-
-impl From<Memory> for ParseFault {
-    ghost use Rattle.std.specs.Prelude.{◌≡◌};
-    ghost use Rattle.argot_parse.specs.declared.parsing.ParseFault.TheVariants.{Memory};
-
-    ghost from_gives = { λ _ e. e ≡ Memory };
-
-    fn from(_: Memory) -> ParseFault {
-        ParseFault::Memory
-    }
-}
 
 // The furthest token at which one that is needed was missing; a file may end too early too.
 fn syntax(out: &Writer, to: usize) -> ParseFault
