@@ -503,6 +503,43 @@ Top\tfunc f() (((int)\t12\n\
 Top\tfunc f() int string\t8\n\
 ";
 
+// Declarations behind `package p` and the nodes of their files: kind, first token and last, and behind `>` and `~` the
+// numbers of the first child and of the next sibling. Written from the grammar by hand.
+static TREES: [(&str, &str); 8] = [
+    (
+        "package p\nimport (\"a\"; . \"b\"; m \"c\")\n",
+        "File:0-13>1 DeclName:1-1~2 ImportGroup:3-12>3 Spec:5-5>4~5 ImportPath:5-5 DotSpec:7-8>6~7 ImportPath:8-8 NamedSpec:10-11>8 DeclName:10-10~9 ImportPath:11-11",
+    ),
+    (
+        "package p\nfunc (t *T) m(a, b int, c ...string) (int, error) { return a }\n",
+        "File:0-29>1 DeclName:1-1~2 FuncDecl:3-28>3 NamedParams:4-8>4~8 NamedParam:5-7>5 DeclName:5-5~6 PointerType:6-7>7 TypeName:7-7 DeclName:9-9~9 Signature:10-24>10~24 NamedParams:10-19>11~19 LoneParam:11-11>12~13 DeclName:11-11 NamedParam:13-14>14~16 DeclName:13-13~15 TypeName:14-14 NamedVariadic:16-18>17 DeclName:16-16~18 TypeName:18-18 Params:20-24>20 Param:21-21>21~22 TypeName:21-21 Param:23-23>23 TypeName:23-23 Block:25-28>25 Return:26-27>26 NameUse:27-27",
+    ),
+    (
+        "package p\ntype T struct { a, b int; *q.U `x` }; type E = map[string]<-chan func()\n",
+        "File:0-31>1 DeclName:1-1~2 TypeDecl:3-17>3~14 TypeSpec:4-17>4 DeclName:4-4~5 StructType:5-17>6 Field:7-10>7~11 Names:7-9>8~10 DeclName:7-7~9 DeclName:9-9 TypeName:10-10 EmbeddedPointer:12-16>12 QualifiedType:13-15~13 Tag:16-16 TypeDecl:19-30>15 AliasSpec:20-30>16 DeclName:20-20~17 MapType:22-30>18 TypeName:24-24~19 ReceiveType:26-30>20 FuncType:28-30>21 Signature:29-30>22 Params:29-30",
+    ),
+    (
+        "package p\nvar x = -a.b[1:2]*f(c, d...) + T{k: 1, {2}}\n",
+        "File:0-34>1 DeclName:1-1~2 VarDecl:3-33>3 VarSpec:4-33>4 Names:4-4>5~6 DeclName:4-4 Exprs:6-33>7 Binary:6-33>8 Binary:6-22>9~20 Negative:6-14>10~16 SliceBetween:7-14>11 Selector:7-9>12~14 NameUse:7-7~13 SelectedName:9-9 Literal:11-11~15 Literal:13-13 SpreadCall:16-22>17 NameUse:16-16~18 NameUse:18-18~19 NameUse:20-20 Composite:24-33>21 TypeName:24-24~22 Elems:25-33>23 KeyedItem:26-28>24~26 NameUse:26-26~25 Literal:28-28 Item:30-32>27 Elems:30-32>28 Item:31-31>29 Literal:31-31",
+    ),
+    (
+        "package p\nvar x = f(<-chan int, []int(nil), <-c)\n",
+        "File:0-22>1 DeclName:1-1~2 VarDecl:3-21>3 VarSpec:4-21>4 Names:4-4>5~6 DeclName:4-4 Exprs:6-21>7 Call:6-21>8 NameUse:6-6~9 ReceiveType:8-10>10~11 TypeName:10-10 Conversion:12-17>12~15 SliceType:12-14>13~14 TypeName:14-14 NameUse:16-16 Receive:19-20>16 NameUse:20-20",
+    ),
+    (
+        "package p\nfunc f() { L: for i := 0; i < n; i++ { if a := b; a { continue L } else if c { break } else { } } }\n",
+        "File:0-43>1 DeclName:1-1~2 FuncDecl:3-42>3 DeclName:4-4~4 Signature:5-6>5~6 Params:5-6 Block:7-42>7 Labeled:8-41>8 DeclName:8-8~9 For:10-41>10 Init:11-13>11~16 Define:11-13>12 Names:11-11>13~14 DeclName:11-11 Exprs:13-13>15 Literal:13-13 Binary:15-17>17~19 NameUse:15-15~18 NameUse:17-17 Post:19-20>20~22 Increment:19-20>21 NameUse:19-19 Block:21-41>23 If:22-40>24 Init:23-25>25~30 Define:23-25>26 Names:23-23>27~28 DeclName:23-23 Exprs:25-25>29 NameUse:25-25 NameUse:27-27~31 Block:28-31>32~34 Continue:29-30>33 LabelUse:30-30 If:33-40>35 NameUse:34-34~36 Block:35-37>37~38 Break:36-36 Block:39-40",
+    ),
+    (
+        "package p\nfunc f() { switch x := y.(type) { case int, nil: ; default: g() }; switch a, b := 1, 2; a { } }\n",
+        "File:0-43>1 DeclName:1-1~2 FuncDecl:3-42>3 DeclName:4-4~4 Signature:5-6>5~6 Params:5-6 Block:7-42>7 TypeSwitch:8-28>8~21 NamedGuard:9-15>9~12 DeclName:9-9~10 Guard:11-15>11 NameUse:11-11 Case:17-22>13~17 Values:18-20>14~16 NameUse:18-18~15 NameUse:20-20 Empty:22-22 Default:23-27>18 ExprStmt:25-27>19 Call:25-27>20 NameUse:25-25 Switch:30-41>22 Init:31-37>23~30 Define:31-37>24 Names:31-33>25~27 DeclName:31-31~26 DeclName:33-33 Exprs:35-37>28 Literal:35-35~29 Literal:37-37 NameUse:39-39",
+    ),
+    (
+        "package p\nfunc f() { select { case c <- 1: case v, ok = <-c: case w := <-c: case <-c: default: }; for k, v := range m { a[k] += v }; go f(); defer g() }\n",
+        "File:0-63>1 DeclName:1-1~2 FuncDecl:3-62>3 DeclName:4-4~4 Signature:5-6>5~6 Params:5-6 Block:7-62>7 Select:8-35>8~26 SendCase:10-14>9~11 NameUse:11-11~10 Literal:13-13 AssignCase:15-22>12~17 Exprs:16-18>13~15 NameUse:16-16~14 NameUse:18-18 Receive:20-21>16 NameUse:21-21 DefineCase:23-28>18~22 Exprs:24-24>19~20 NameUse:24-24 Receive:26-27>21 NameUse:27-27 ReceiveCase:29-32>23~25 Receive:30-31>24 NameUse:31-31 Default:33-34 DefineRange:37-51>27~39 Exprs:38-40>28~30 NameUse:38-38~29 NameUse:40-40 NameUse:43-43~31 Block:44-51>32 OpAssign:45-50>33 Exprs:45-48>34~37 Index:45-48>35 NameUse:45-45~36 NameUse:47-47 Exprs:50-50>38 NameUse:50-50 Go:53-56>40~42 Call:54-56>41 NameUse:54-54 Defer:58-61>43 Call:59-61>44 NameUse:59-59",
+    ),
+];
+
 // What stands before a text and behind it.
 fn around(kind: &str) -> (&'static str, &'static str) {
     match kind {
@@ -546,6 +583,46 @@ fn small_files_have_a_tree_or_a_fault(rt: HostRuntime) -> Result<(), Fail> {
         file.push_str(behind)?;
         assert!(rt; file.len() < 1000);
         assert_eq!(rt; shown(rt.alloc(), file.as_bytes())?.as_str(), want, "at {text}");
+    }
+    Ok(())
+}
+
+// The nodes of a file in one line.
+fn shown_nodes(alloc: Global, bytes: &[u8]) -> Result<String, Fail>
+    requires { length bytes.now < 2 ^ 32 }
+{
+    let mut line = String::new(alloc);
+    let Ok(lexed) = lex(alloc, bytes) else {
+        line.push_str("no tokens")?;
+        return Ok(line);
+    };
+    let Ok(tree) = parse(alloc, lexed.tokens.as_vec()) else {
+        line.push_str("no tree")?;
+        return Ok(line);
+    };
+    for node in tree.nodes.as_slice() {
+        if line.len() > 0 {
+            line.push_str(" ")?;
+        }
+        let kind = node.kind;
+        let token = node.token;
+        let last = node.last;
+        write!(line, "{kind:?}:{token}-{last}")?;
+        if let Some(first) = node.first {
+            write!(line, ">{first}")?;
+        }
+        if let Some(next) = node.next {
+            write!(line, "~{next}")?;
+        }
+    }
+    Ok(line)
+}
+
+#[test]
+fn trees_have_the_nodes_of_the_grammar(rt: HostRuntime) -> Result<(), Fail> {
+    for (text, want) in TREES {
+        assert!(rt; text.len() < 1000);
+        assert_eq!(rt; shown_nodes(rt.alloc(), text.as_bytes())?.as_str(), want);
     }
     Ok(())
 }
