@@ -1,2 +1,3 @@
 pub mod Goes
 pub mod TypeParts
+pub mod Expressions

@@ -123,7 +123,7 @@ stops_follows bare (Some (kinds.Mark marks.OpenBrace)) h = absurd (false≢true 
 stops_follows bare (Some (kinds.Mark marks.Arrow)) h = absurd (false≢true h)
 stops_follows bare _ h = h
 
-operand_no_unary : (o : Option TokenKind) → begins_operand o ≡ true → unary_of o ≡ None
+pub operand_no_unary : (o : Option TokenKind) → begins_operand o ≡ true → unary_of o ≡ None
 operand_no_unary (Some (kinds.Mark marks.Plus)) h = absurd (false≢true h)
 operand_no_unary (Some (kinds.Mark marks.Minus)) h = absurd (false≢true h)
 operand_no_unary (Some (kinds.Mark marks.Not)) h = absurd (false≢true h)

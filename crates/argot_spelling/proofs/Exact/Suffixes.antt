@@ -41,7 +41,7 @@ module _ (tokens : List Token) where
   suffix_step n from mark at to out new more h = read_more tokens n (Suffixes from mark) at out more ∙ rw h refl
 
   -- what was come to, and a suffix behind it
-  further : (types bare : Bool) (n : ℕ) (out : List Post) (x z : Forest) (from mid to : ℕ) → mid < length tokens → mid < to → (r : Comes tokens types bare n out x from mid) → suffix_by tokens (read tokens (r.steps - 1)) from (length out) mid (out ++ posts x) ≡ Some (to, out ++ posts z) → Comes tokens types bare n out z from to
+  pub further : (types bare : Bool) (n : ℕ) (out : List Post) (x z : Forest) (from mid to : ℕ) → mid < length tokens → mid < to → (r : Comes tokens types bare n out x from mid) → suffix_by tokens (read tokens (r.steps - 1)) from (length out) mid (out ++ posts x) ≡ Some (to, out ++ posts z) → Comes tokens types bare n out z from to
   further types bare n out x z from mid to within forward r h =
       let steps = r.enough in
       record {
