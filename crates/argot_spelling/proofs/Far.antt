@@ -1,3 +1,4 @@
 pub mod Goes
 pub mod TypeParts
 pub mod Expressions
+pub mod Declarations

@@ -142,7 +142,7 @@ module _ (tokens : List Token) where
       read_more tokens n (The MaybeValues) from out more ∙ simp (a.there, reads, over nodes.Exprs (from + 1) to out x)
 
   -- no comma stands behind names before a type and `=`
-  typed_comma : {x : Forest} {from to : ℕ} → Spells tokens MaybeTyped x from to → HasMark tokens to marks.Assign → Not tokens from (kinds.Mark marks.Comma)
+  pub typed_comma : {x : Forest} {from to : ℕ} → Spells tokens MaybeTyped x from to → HasMark tokens to marks.Assign → Not tokens from (kinds.Mark marks.Comma)
   typed_comma untyped a = other (kinds.Mark marks.Comma) (at_mark a) refl
   typed_comma (typed s) a = apart (kinds.Mark marks.Comma) (starts tokens s) refl
 
@@ -201,7 +201,7 @@ module _ (tokens : List Token) where
       let then = exprs_whole tokens ihy (after_stop tokens true (by_test stops spec_stops ends)) (apart (kinds.Mark marks.Comma) ends refl) (n - 1) (out ++ posts names) (omega arith) in
       read_more tokens n (The (Declared Variable)) from out more ∙ simp (reads, over nodes.Names from mid out x, a.there, then, over nodes.Exprs (mid + 1) to (out ++ posts names) y, over_two nodes.VarSpec from to out names values)
 
-  not_generic : {x : Forest} (from : ℕ) {to : ℕ} → Spells tokens AnyType x (from + 1) to → is_generic tokens from ≡ false
+  pub not_generic : {x : Forest} (from : ℕ) {to : ℕ} → Spells tokens AnyType x (from + 1) to → is_generic tokens from ≡ false
   not_generic {x} from {to} s =
       let next : from + 1 + 1 ≡ from + 2 = omega arith in
       let after : from + 1 + 2 ≡ from + 3 = omega arith in
@@ -226,7 +226,7 @@ module _ (tokens : List Token) where
       let reads = ih.gets (n - 1) (out ++ posts (declared from)) (omega arith) (apart (kinds.Mark marks.Dot) ends refl) in
       read_more tokens n (The (Declared TypeSort)) from out more ∙ simp (h.there, a.there, names_it from out, next, reads, over_two nodes.AliasSpec from to out (declared from) x)
 
-  generic : {x : Forest} (from : ℕ) {mid : ℕ} → Passes tokens follows_parameter (from + 3) → Spells tokens TypeParams x (from + 1) mid → is_generic tokens from ≡ true
+  pub generic : {x : Forest} (from : ℕ) {mid : ℕ} → Passes tokens follows_parameter (from + 3) → Spells tokens TypeParams x (from + 1) mid → is_generic tokens from ≡ true
   generic {x} from {mid} f s =
       let next : from + 1 + 1 ≡ from + 2 = omega arith in
       let open_bracket = starts tokens s in
