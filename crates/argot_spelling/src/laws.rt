@@ -1,7 +1,7 @@
 // The laws of the reader, each the contract of a function that does nothing.
 ghost use Rattle.std.specs.Prelude.{List};
 ghost use Rattle.argot_tree.specs.declared.token.Token.{Token};
-ghost use Rattle.argot_spelling.specs.Laws.{OneTree, ReadsSpelled, SpelledRead};
+ghost use Rattle.argot_spelling.specs.Laws.{OneTree, ReadLongest, ReadNone, ReadsSpelled, SpelledRead, SpelledReached};
 
 /// What the reader takes for a part of the grammar is spelled so.
 pub fn reads_spelled()
@@ -16,4 +16,20 @@ pub fn spelled_read()
 /// At most one tree spells a token list.
 pub fn one_tree()
     ensures { OneTree }
+{}
+
+/// Reading reaches at least as far as any expression, type, parameters, signature, declaration or block that is spelled
+/// where it begins.
+pub fn spelled_reached()
+    ensures { (tokens : List Token) → SpelledReached tokens }
+{}
+
+/// What is read of these is the longest.
+pub fn read_longest()
+    ensures { (tokens : List Token) → ReadLongest tokens }
+{}
+
+/// Where none of them is read, none begins.
+pub fn read_none()
+    ensures { (tokens : List Token) → ReadNone tokens }
 {}

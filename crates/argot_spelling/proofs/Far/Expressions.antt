@@ -305,10 +305,10 @@ module _ (tokens : List Token) where
       let rest = g.rest in
       goes rest.found (read_more tokens n (The (Exprs b)) from out more ∙ rw g.reads rest.is) rest.far
 
-  pub level_goes : {b : Bool} {from to : ℕ} → FarLevel 1 b from to → (n : ℕ) (out : List Post) → room tokens from 5 ≤ n → Goes to (read tokens n (The (Level 1 b)) from out)
-  level_goes {b} {from} {to} ih n out enough =
-      let g = ih 1 n out (omega arith) enough in
-      let on = climb_goes tokens g.steps 1 g.limit b from (length out) g.place.0 g.place.1 in
+  pub level_goes : {j : ℕ} {b : Bool} {from to : ℕ} → FarLevel j b from to → (n : ℕ) (out : List Post) → room tokens from 5 ≤ n → Goes to (read tokens n (The (Level j b)) from out)
+  level_goes {j} {b} {from} {to} ih n out enough =
+      let g = ih j n out (omega arith) enough in
+      let on = climb_goes tokens g.steps j g.limit b from (length out) g.place.0 g.place.1 in
       let reached = g.far in
       let further = on.far in
       goes on.found (g.comes ∙ on.is) (omega arith)
