@@ -27,3 +27,5 @@ pub mod Clauses
 pub mod Whole
 pub mod Planting
 pub mod Unique
+pub mod Cut
+pub mod Parts

@@ -6,7 +6,7 @@ use Rattle.argot_tree.specs.declared.tree.Tree.{Tree}
 use Rattle.argot_tree.specs.declared.tree.TreeNode.{TreeNode}
 use Rattle.argot_tree.specs.Forests.{nodes_from}
 use Rattle.argot_tree.specs.Grammar.{Part, File, Level, AnyType, Params, Signature, Decl, Block, Spells}
-use Rattle.argot_tree.specs.Trees.{SpellsTree, IsLongestPart, BeginsNoPart}
+use Rattle.argot_tree.specs.Trees.{SpellsNodes, SpellsTree, IsLongestPart, BeginsNoPart}
 use Rattle.argot_spelling.specs.Rooms.{room, rank}
 use Rattle.argot_spelling.specs.declared.post.Post.{Post}
 use Rattle.argot_spelling.specs.Posts.{posts}
@@ -55,3 +55,8 @@ ReadLongest tokens =
 abbrev pub ReadNone : List Token → Type 0
 ReadNone tokens =
     (part : Part) (n at : ℕ) → IsAlone part → room tokens at (rank part) ≤ n → read tokens n (The part) at [] ≡ None → BeginsNoPart tokens part at
+
+-- at most one tree of such a part spells the tokens from one place up to another
+abbrev pub OnePart : Type 0
+OnePart =
+    (tokens : List Token) (part : Part) (a b : List TreeNode) (from to : ℕ) → IsAlone part → SpellsNodes tokens part a from to → SpellsNodes tokens part b from to → a ≡ b

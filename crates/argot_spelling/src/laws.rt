@@ -1,7 +1,7 @@
 // The laws of the reader, each the contract of a function that does nothing.
 ghost use Rattle.std.specs.Prelude.{List};
 ghost use Rattle.argot_tree.specs.declared.token.Token.{Token};
-ghost use Rattle.argot_spelling.specs.Laws.{OneTree, ReadLongest, ReadNone, ReadsSpelled, SpelledRead, SpelledReached};
+ghost use Rattle.argot_spelling.specs.Laws.{OnePart, OneTree, ReadLongest, ReadNone, ReadsSpelled, SpelledRead, SpelledReached};
 
 /// What the reader takes for a part of the grammar is spelled so.
 pub fn reads_spelled()
@@ -32,4 +32,9 @@ pub fn read_longest()
 /// Where none of them is read, none begins.
 pub fn read_none()
     ensures { (tokens : List Token) → ReadNone tokens }
+{}
+
+/// At most one tree of each of them spells the tokens from one place up to another.
+pub fn one_part()
+    ensures { OnePart }
 {}
