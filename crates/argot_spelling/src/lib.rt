@@ -7,5 +7,7 @@
 mod laws;
 mod post;
 
-pub use laws::{one_part, one_tree, read_longest, read_none, reads_spelled, spelled_reached, spelled_read};
+pub use laws::{
+    one_part, one_tree, read_longest, read_none, reads_spelled, spelled_reached, spelled_read,
+};
 pub use post::Post;

@@ -1,5 +1,5 @@
 -- A part does not end before it begins.
-use Rattle.std.proofs.Common.{◌≡◌, ℕ, ◌+◌, ◌≤◌, List, arith}
+use Rattle.std.proofs.Common.{ℕ, ◌≤◌, List, arith}
 use Rattle.argot_tree.specs.declared.token.Token.{Token}
 use Rattle.argot_tree.specs.Forests.{Forest}
 use Rattle.argot_tree.specs.TokensAt.{MaybeComma, left_out, comma}

@@ -1,25 +1,24 @@
 -- A channel's type with an arrow before it is read, alone and where an expression may stand too: there each arrow is first
 -- taken for an operator, and what was read is recast.
-use Rattle.std.proofs.Common.{◌≡◌, ℕ, zero, suc, ◌+◌, ◌-◌, ◌*◌, ◌<◌, ◌≤◌, List, [], ◌∷◌, ◌++◌, length, Bool, true, false, ◌&&◌, Option, Some, None, refl, sym, ap, ◌∙◌, subst, inl, inr, ⊎_elim, arith, append_assoc, length-append, cond}
-use Rattle.std.specs.Prelude.{slice_get, ◌==◌, ◌⊎◌, reverse, drop}
-use Rattle.std.proofs.lemmas.List.{append-nil, reverse-append, reverse-reverse}
+use Rattle.std.proofs.Common.{◌≡◌, ℕ, ◌+◌, ◌-◌, ◌<◌, ◌≤◌, List, [], ◌∷◌, ◌++◌, length, true, false, Some, refl, sym, ap, ◌∙◌, ⊎_elim, arith, append_assoc, length-append}
+use Rattle.std.specs.Prelude.{◌==◌, reverse}
+use Rattle.std.proofs.lemmas.List.{reverse-append, reverse-reverse}
 use Rattle.std.proofs.Math.Seq.{drop-append_seam}
-use Rattle.std.proofs.lemmas.Bool.{eq-eqb, ne_eqb, cases_Bool, false≢true}
+use Rattle.std.proofs.lemmas.Bool.{ne_eqb, cases_Bool}
 use Rattle.argot_tree.specs.declared.keyword.Keyword.TheVariants as words
 use Rattle.argot_tree.specs.declared.mark.Mark.TheVariants as marks
 use Rattle.argot_tree.specs.declared.node_kind.NodeKind.{NodeKind}
 use Rattle.argot_tree.specs.declared.node_kind.NodeKind.TheVariants as nodes
-use Rattle.argot_tree.specs.declared.token.TokenKind.{TokenKind}
 use Rattle.argot_tree.specs.declared.token.TokenKind.TheVariants as kinds
 use Rattle.argot_tree.specs.declared.token.Token.{Token}
-use Rattle.argot_tree.specs.Forests.{Forest, leaf, beside, one, size, last_token}
-use Rattle.argot_tree.specs.TokensAt.{kind_at, HasAt, HasWord, HasMark, Passes, Fails, is_star, begins_conversion}
+use Rattle.argot_tree.specs.Forests.{Forest, one, size, last_token}
+use Rattle.argot_tree.specs.TokensAt.{HasWord, HasMark, begins_conversion}
 use Rattle.argot_tree.specs.Grammar.{Spells, AnyType, OnlyType}
 use Rattle.argot_spelling.specs.declared.post.Post.{Post}
 use Rattle.argot_spelling.specs.Posts.{posts}
 use Rattle.argot_spelling.specs.Rooms.{room}
-use Rattle.argot_spelling.specs.Reading.{The, UnaryOr, closed, is_at, is_mark, is_word}
-use Rattle.argot_spelling.specs.ExpressionReader.{is_type, is_type_post, typed, recast, received, maybe_more}
+use Rattle.argot_spelling.specs.Reading.{The, UnaryOr, is_mark}
+use Rattle.argot_spelling.specs.ExpressionReader.{is_type_post, typed, recast, received, maybe_more}
 use Rattle.argot_spelling.specs.Reader.{read}
 use Rattle.argot_spelling.proofs.Steps.{read_more}
 use Rattle.argot_spelling.proofs.TokenTests.{has_mark}
@@ -27,8 +26,8 @@ use Rattle.argot_spelling.proofs.PostLaws.{length-posts}
 use Rattle.argot_spelling.proofs.Exact.Nodes.{over}
 use Rattle.argot_spelling.proofs.Exact.Roots.{last_post}
 use Rattle.argot_spelling.proofs.Exact.Ahead.{ahead}
-use Rattle.argot_spelling.proofs.Exact.Tokens.{Not, other, stops, at_mark, at_word, by_word, within_mark, within_word}
-use Rattle.argot_spelling.proofs.Exact.Claims.{Gets, Recasts, OfType, OfOnlyType, OfArrow}
+use Rattle.argot_spelling.proofs.Exact.Tokens.{Not, by_word, within_mark, within_word}
+use Rattle.argot_spelling.proofs.Exact.Claims.{Recasts, OfType, OfOnlyType}
 use Rattle.argot_spelling.proofs.Exact.TypeParts.{ending, undotted, stands_among}
 
 last_same : (from to : ℕ) → from + 2 ≤ to → last_token (from + 1) to ≡ last_token from to
@@ -74,7 +73,7 @@ module _ (tokens : List Token) where
       let channel = r.channel in
       let reads = r.reads in
       let type : read tokens (n - 1) (The AnyType) (from + 2 + 1) out ≡ Some (to, out ++ r.new) =
-          read_more tokens (n - 1) (The AnyType) (from + 2 + 1) out two_more ∙ simp (channel.there, reads) in
+      read_more tokens (n - 1) (The AnyType) (from + 2 + 1) out two_more ∙ simp (channel.there, reads) in
       let p : Post = record { kind = nodes.SendType; token = from + 1; last = last_token (from + 1) to; size = length (out ++ r.new) + 1 - length out } in
       let long : length (out ++ r.new) + 1 - length out ≡ size x + 1 = omega (arith, length-append out r.new, r.long, length-posts x) in
       record {

@@ -1,7 +1,7 @@
 -- What is claimed of each part that is spelled: reading gives it whole where nothing behind it goes on with it, or comes to
 -- the loop behind it.
-use Rattle.std.proofs.Common.{◌≡◌, ℕ, ◌+◌, ◌<◌, ◌≤◌, List, [], ◌++◌, length, Bool, true, false, Option, Some, None, refl, sym, ap, ◌∙◌}
-use Rattle.std.specs.Prelude.{reverse, ◌⊎◌, ◌&&◌}
+use Rattle.std.proofs.Common.{◌≡◌, ℕ, ◌+◌, ◌≤◌, List, ◌++◌, length, Bool, true, false, Option, Some}
+use Rattle.std.specs.Prelude.{reverse, ◌⊎◌}
 use Rattle.argot_tree.specs.declared.keyword.Keyword.TheVariants as words
 use Rattle.argot_tree.specs.declared.mark.Mark.TheVariants as marks
 use Rattle.argot_tree.specs.declared.node_kind.NodeKind.TheVariants as nodes
@@ -9,7 +9,7 @@ use Rattle.argot_tree.specs.declared.token.TokenKind.{TokenKind}
 use Rattle.argot_tree.specs.declared.token.TokenKind.TheVariants as kinds
 use Rattle.argot_tree.specs.declared.token.Token.{Token}
 use Rattle.argot_tree.specs.Forests.{Forest, leaf, beside, one}
-use Rattle.argot_tree.specs.TokensAt.{kind_at, level_at, HasAt, HasWord, HasMark, Passes, Fails, is_semicolon, is_star}
+use Rattle.argot_tree.specs.TokensAt.{level_at, HasAt, HasWord, HasMark, Passes, Fails, is_semicolon, is_star}
 use Rattle.argot_tree.specs.Grammar.{Part, Spells, File, Imports, Import, Specs, Spec, Tops, Top, Receiver, MaybeReceiver, MaybeTypeParams, MaybeBody, Decl, Declared, DeclaredList, MaybeTyped, MaybeValues, TypeParams, Balanced, Names, Signature, Params, Types, NamedList, AnyType, OnlyType, Fields, Field, Embedded, MaybeTag, Elements, Element, Level, Unary, Primary, Operand, Exprs, Either, Eithers, Elems, Items, Item, Value, Block, Stmts, Stmt, Simple, MaybeLabel, MaybeInit, If, MaybeElse, MaybeSwitched, TypeGuard, Cases, Case, Comms, Comm, MaybeCondition, MaybePost}
 use Rattle.argot_spelling.specs.declared.post.Post.{Post}
 use Rattle.argot_spelling.specs.Posts.{posts}
@@ -20,7 +20,7 @@ use Rattle.argot_spelling.specs.ExpressionReader.{typed, recast}
 use Rattle.argot_spelling.specs.StatementReader.{ends_stmt, ends_stmts, ending, guards, more_by, opening_by, else_by}
 use Rattle.argot_spelling.specs.FileReader.{is_end}
 use Rattle.argot_spelling.specs.Reader.{read}
-use Rattle.argot_spelling.proofs.Exact.Tokens.{Not, EndsList, stops, follows, ends_simple, ends_spec}
+use Rattle.argot_spelling.proofs.Exact.Tokens.{Not, EndsList, stops, ends_simple, ends_spec}
 
 -- what ends an item of a composite literal
 abbrev pub ends_item : Option TokenKind → Bool

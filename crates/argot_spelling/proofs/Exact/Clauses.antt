@@ -1,32 +1,27 @@
 -- The clauses of a switch and of a select that are spelled are read.
-use Rattle.std.proofs.Common.{◌≡◌, ℕ, zero, suc, ◌+◌, ◌-◌, ◌*◌, ◌<◌, ◌≤◌, List, [], ◌∷◌, ◌++◌, length, Bool, true, false, ◌&&◌, Option, Some, None, refl, sym, ap, ◌∙◌, subst, inl, inr, ⊎_elim, arith}
-use Rattle.std.specs.Prelude.{◌==◌, ◌⊎◌, nat_le}
+use Rattle.std.proofs.Common.{◌≡◌, ℕ, ◌+◌, ◌-◌, ◌<◌, List, ◌++◌, Bool, true, false, Option, Some, refl, sym, ◌∙◌, subst, ⊎_elim, arith}
 use Rattle.std.proofs.lemmas.List.{append-nil}
-use Rattle.std.proofs.lemmas.Bool.{cases_Bool, false≢true, and_from, and_left, and_right, le-leb, lt-leb}
+use Rattle.std.proofs.lemmas.Bool.{false≢true}
 use Rattle.argot_tree.specs.declared.keyword.Keyword.TheVariants as words
 use Rattle.argot_tree.specs.declared.mark.Mark.TheVariants as marks
-use Rattle.argot_tree.specs.declared.node_kind.NodeKind.{NodeKind}
 use Rattle.argot_tree.specs.declared.node_kind.NodeKind.TheVariants as nodes
 use Rattle.argot_tree.specs.declared.token.TokenKind.{TokenKind}
 use Rattle.argot_tree.specs.declared.token.TokenKind.TheVariants as kinds
 use Rattle.argot_tree.specs.declared.token.Token.{Token}
 use Rattle.argot_tree.specs.Forests.{Forest, leaf, beside, one}
-use Rattle.argot_tree.specs.TokensAt.{kind_at, HasAt, HasWord, HasMark, Passes, Fails}
+use Rattle.argot_tree.specs.TokensAt.{HasWord, HasMark, Passes}
 use Rattle.argot_tree.specs.Grammar.{Spells, Level, Exprs, Eithers, Stmts, Stmt, Cases, Case, Comms, Comm, no_case, one_case, case, default_case, no_comm, one_comm, send_comm, assign_comm, define_comm, receive_comm, default_comm}
-use Rattle.argot_spelling.specs.declared.post.Post.{Post}
 use Rattle.argot_spelling.specs.Posts.{posts}
-use Rattle.argot_spelling.specs.Rooms.{room}
-use Rattle.argot_spelling.specs.Reading.{The, closed, is_at, is_mark}
+use Rattle.argot_spelling.specs.Reading.{The}
 use Rattle.argot_spelling.specs.StatementReader.{begins_clause, ends_stmts}
-use Rattle.argot_spelling.specs.Reader.{read}
 use Rattle.argot_spelling.proofs.Steps.{read_more}
 use Rattle.argot_spelling.proofs.Exact.Nodes.{over, over_two, over_three, two}
 use Rattle.argot_spelling.proofs.Exact.Ahead.{ahead}
 use Rattle.argot_spelling.proofs.Exact.Starts.{starts}
-use Rattle.argot_spelling.proofs.Exact.Tokens.{Not, other, apart, failing, stops, follows, at_mark, at_word, by_kind, by_mark, by_test, within_at, within_mark, within_word, within_pass}
+use Rattle.argot_spelling.proofs.Exact.Tokens.{other, apart, stops, follows, at_mark, at_word, by_mark, by_test, within_mark, within_word, within_pass}
 use Rattle.argot_spelling.proofs.Exact.Levels.{level_gets, after_stop}
 use Rattle.argot_spelling.proofs.Exact.Statements.{begun_by}
-use Rattle.argot_spelling.proofs.Exact.Claims.{Gets, OfLevel, OfExprs, OfStmt, Exact}
+use Rattle.argot_spelling.proofs.Exact.Claims.{OfLevel, OfExprs, OfStmt, Exact}
 
 clause_ends : (o : Option TokenKind) → begins_clause o ≡ true → ends_stmts o ≡ true
 clause_ends (Some (kinds.Word words.Case)) h = refl
@@ -86,10 +81,10 @@ module _ (tokens : List Token) where
   pub exact_select : {x : Forest} {from to : ℕ} → HasWord tokens from words.Select → HasMark tokens (from + 1) marks.OpenBrace → Spells tokens Comms x (from + 2) to → HasMark tokens to marks.CloseBrace → Spells tokens Stmt (one nodes.Select from (to + 1) x) from (to + 1) → Exact tokens Comms x (from + 2) to → OfStmt tokens (one nodes.Select from (to + 1) x) from (to + 1)
   exact_select {x} {from} {to} h b s c whole ih = begun_by tokens (at_word h) refl whole
       (λ n out enough ends.
-          let within = within_word h in
-          let more : 0 < n = omega arith in
-          let reads = ih (n - 1) out (omega arith) c in
-          read_more tokens n (The Stmt) from out more ∙ simp (h.there, b.there, reads, c.there, over nodes.Select from (to + 1) out x))
+      let within = within_word h in
+      let more : 0 < n = omega arith in
+      let reads = ih (n - 1) out (omega arith) c in
+      read_more tokens n (The Stmt) from out more ∙ simp (h.there, b.there, reads, c.there, over nodes.Select from (to + 1) out x))
 
   pub exact_no_comm : {from : ℕ} → Exact tokens Comms leaf from from
   exact_no_comm {from} = λ n out enough c.

@@ -1,22 +1,18 @@
 -- Declarations that are spelled are read.
-use Rattle.std.proofs.Common.{◌≡◌, ℕ, zero, suc, ◌+◌, ◌-◌, ◌*◌, ◌<◌, ◌≤◌, List, [], ◌∷◌, ◌++◌, length, Bool, true, false, ◌&&◌, Option, Some, None, refl, sym, ap, ◌∙◌, subst, inl, inr, ⊎_elim, arith}
-use Rattle.std.specs.Prelude.{◌==◌, ◌⊎◌, nat_le}
+use Rattle.std.proofs.Common.{◌≡◌, ℕ, ◌+◌, ◌-◌, ◌<◌, List, ◌++◌, true, false, Option, Some, None, refl, ◌∙◌, subst, arith}
 use Rattle.std.proofs.lemmas.List.{append-nil}
-use Rattle.std.proofs.lemmas.Bool.{cases_Bool, false≢true, and_from, and_left, and_right, le-leb, lt-leb}
+use Rattle.std.proofs.lemmas.Bool.{false≢true}
 use Rattle.argot_tree.specs.declared.keyword.Keyword.TheVariants as words
 use Rattle.argot_tree.specs.declared.mark.Mark.TheVariants as marks
-use Rattle.argot_tree.specs.declared.node_kind.NodeKind.{NodeKind}
 use Rattle.argot_tree.specs.declared.node_kind.NodeKind.TheVariants as nodes
 use Rattle.argot_tree.specs.declared.token.TokenKind.{TokenKind}
 use Rattle.argot_tree.specs.declared.token.TokenKind.TheVariants as kinds
 use Rattle.argot_tree.specs.declared.token.Token.{Token}
 use Rattle.argot_tree.specs.Forests.{Forest, leaf, beside, one}
-use Rattle.argot_tree.specs.TokensAt.{kind_at, HasAt, HasWord, HasMark, Passes, Fails, is_semicolon, begins_type, follows_parameter, is_no_bracket}
+use Rattle.argot_tree.specs.TokensAt.{HasAt, HasWord, HasMark, Passes, is_semicolon, begins_type, follows_parameter, is_no_bracket}
 use Rattle.argot_tree.specs.Grammar.{Spells, Sort, Constant, Variable, TypeSort, Names, AnyType, MaybeTyped, MaybeValues, Exprs, TypeParams, Balanced, Declared, DeclaredList, Decl, untyped, typed, no_values, some_values, type_params}
-use Rattle.argot_spelling.specs.declared.post.Post.{Post}
 use Rattle.argot_spelling.specs.Posts.{posts}
-use Rattle.argot_spelling.specs.Rooms.{room}
-use Rattle.argot_spelling.specs.Reading.{The, closed, is_at, is_mark}
+use Rattle.argot_spelling.specs.Reading.{The}
 use Rattle.argot_spelling.specs.DeclarationReader.{is_generic}
 use Rattle.argot_spelling.specs.StatementReader.{ends_stmt}
 use Rattle.argot_spelling.specs.Reader.{read}
@@ -25,12 +21,12 @@ use Rattle.argot_spelling.proofs.PostLaws.{put_posts}
 use Rattle.argot_spelling.proofs.Exact.Nodes.{over, over_two, over_three, two, declared, names_it}
 use Rattle.argot_spelling.proofs.Exact.Ahead.{ahead}
 use Rattle.argot_spelling.proofs.Exact.Starts.{starts}
-use Rattle.argot_spelling.proofs.Exact.Tokens.{Not, other, apart, failing, stops, ends_spec, begins_decl, at_mark, at_word, by_kind, by_mark, by_test, within_at, within_mark, within_word, within_pass}
+use Rattle.argot_spelling.proofs.Exact.Tokens.{Not, other, apart, failing, stops, ends_spec, at_mark, by_mark, by_test, within_at, within_mark, within_word, within_pass}
 use Rattle.argot_spelling.proofs.Exact.Levels.{after_stop}
 use Rattle.argot_spelling.proofs.Exact.Elements.{exprs_whole}
 use Rattle.argot_spelling.proofs.Exact.Seconds.{ungeneric}
 use Rattle.argot_spelling.proofs.Exact.Members.{names_forward}
-use Rattle.argot_spelling.proofs.Exact.Claims.{Gets, OfType, OfExprs, closes, Exact}
+use Rattle.argot_spelling.proofs.Exact.Claims.{OfType, OfExprs, closes, Exact}
 
 spec_stops : (o : Option TokenKind) → ends_spec o ≡ true → stops o ≡ true
 spec_stops None h = refl

@@ -1,33 +1,28 @@
 -- Lists of expressions and the elements of composite literals that are spelled are read.
-use Rattle.std.proofs.Common.{◌≡◌, ℕ, zero, suc, ◌+◌, ◌-◌, ◌*◌, ◌<◌, ◌≤◌, List, [], ◌∷◌, ◌++◌, length, Bool, true, false, ◌&&◌, Option, Some, None, refl, sym, ap, ◌∙◌, subst, inl, inr, ⊎_elim, arith}
-use Rattle.std.specs.Prelude.{◌==◌, ◌⊎◌, nat_le}
-use Rattle.std.proofs.lemmas.List.{append-nil}
-use Rattle.std.proofs.lemmas.Bool.{cases_Bool, false≢true, and_from, and_left, and_right, le-leb, lt-leb}
-use Rattle.argot_tree.specs.declared.keyword.Keyword.TheVariants as words
+use Rattle.std.proofs.Common.{◌≡◌, ℕ, zero, suc, ◌+◌, ◌-◌, ◌<◌, ◌≤◌, List, ◌++◌, Bool, true, false, Option, Some, refl, ap, ◌∙◌, inl, inr, arith}
+use Rattle.std.proofs.lemmas.Bool.{false≢true}
 use Rattle.argot_tree.specs.declared.mark.Mark.TheVariants as marks
-use Rattle.argot_tree.specs.declared.node_kind.NodeKind.{NodeKind}
 use Rattle.argot_tree.specs.declared.node_kind.NodeKind.TheVariants as nodes
 use Rattle.argot_tree.specs.declared.token.TokenKind.{TokenKind}
 use Rattle.argot_tree.specs.declared.token.TokenKind.TheVariants as kinds
 use Rattle.argot_tree.specs.declared.token.Token.{Token}
 use Rattle.argot_tree.specs.Forests.{Forest, leaf, beside, one}
-use Rattle.argot_tree.specs.TokensAt.{kind_at, HasAt, HasMark, Passes, MaybeComma}
+use Rattle.argot_tree.specs.TokensAt.{HasMark, MaybeComma}
 use Rattle.argot_tree.specs.Grammar.{Spells, Level, Exprs, Either, Eithers, Elems, Items, Item, Value}
 use Rattle.argot_spelling.specs.declared.post.Post.{Post}
 use Rattle.argot_spelling.specs.Posts.{posts}
 use Rattle.argot_spelling.specs.Rooms.{room}
-use Rattle.argot_spelling.specs.Reading.{The, MoreExprs, closed, is_at, is_mark, past_list, goes_on}
-use Rattle.argot_spelling.specs.StatementReader.{more_by}
+use Rattle.argot_spelling.specs.Reading.{The, MoreExprs, is_mark}
 use Rattle.argot_spelling.specs.Reader.{read}
 use Rattle.argot_spelling.proofs.Steps.{read_more}
 use Rattle.argot_spelling.proofs.PostLaws.{put_posts}
 use Rattle.argot_spelling.proofs.Exact.Nodes.{over, over_two, two}
-use Rattle.argot_spelling.proofs.Exact.Ahead.{ahead, comma_ahead}
+use Rattle.argot_spelling.proofs.Exact.Ahead.{ahead}
 use Rattle.argot_spelling.proofs.Exact.Starts.{starts}
-use Rattle.argot_spelling.proofs.Exact.Tokens.{Not, other, apart, stops, follows, begins_value, at_mark, by_kind, by_mark, by_test, within_mark, EndsList, list_end}
+use Rattle.argot_spelling.proofs.Exact.Tokens.{Not, apart, stops, follows, by_mark, by_test, within_mark, list_end}
 use Rattle.argot_spelling.proofs.Exact.Lists.{end_passes, list_stays, list_goes, passed, brace}
-use Rattle.argot_spelling.proofs.Exact.Levels.{level_gets, level_after, after, stops_follows}
-use Rattle.argot_spelling.proofs.Exact.Claims.{Gets, After, OfLevel, OfExprs, Lists, ends_item, Exact}
+use Rattle.argot_spelling.proofs.Exact.Levels.{level_gets, level_after, stops_follows}
+use Rattle.argot_spelling.proofs.Exact.Claims.{Gets, After, OfLevel, OfExprs, ends_item, Exact}
 
 pub item_stops : (o : Option TokenKind) → ends_item o ≡ true → stops o ≡ true
 item_stops (Some (kinds.Mark marks.Comma)) h = refl

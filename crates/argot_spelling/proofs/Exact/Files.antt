@@ -1,11 +1,10 @@
 -- Files that are spelled are read: imports, declarations at the top, receivers.
-use Rattle.std.proofs.Common.{◌≡◌, ℕ, zero, suc, ◌+◌, ◌-◌, ◌*◌, ◌<◌, ◌≤◌, List, [], ◌∷◌, ◌++◌, length, Bool, true, false, ◌&&◌, Option, Some, None, refl, sym, ap, ◌∙◌, subst, inl, inr, ⊎_elim, arith}
-use Rattle.std.specs.Prelude.{◌==◌, ◌⊎◌, nat_le}
+use Rattle.std.proofs.Common.{◌≡◌, ℕ, ◌+◌, ◌-◌, ◌<◌, List, ◌++◌, Bool, true, false, ◌&&◌, Option, Some, None, refl, ap, ◌∙◌, subst, ⊎_elim, arith}
 use Rattle.std.proofs.lemmas.List.{append-nil}
-use Rattle.std.proofs.lemmas.Bool.{cases_Bool, false≢true, and_from, and_left, and_right, le-leb, lt-leb}
+use Rattle.std.proofs.Math.Bool.{and-false}
+use Rattle.std.proofs.lemmas.Bool.{false≢true}
 use Rattle.argot_tree.specs.declared.keyword.Keyword.TheVariants as words
 use Rattle.argot_tree.specs.declared.mark.Mark.TheVariants as marks
-use Rattle.argot_tree.specs.declared.node_kind.NodeKind.{NodeKind}
 use Rattle.argot_tree.specs.declared.node_kind.NodeKind.TheVariants as nodes
 use Rattle.argot_tree.specs.declared.token.TokenKind.{TokenKind}
 use Rattle.argot_tree.specs.declared.token.TokenKind.TheVariants as kinds
@@ -13,24 +12,21 @@ use Rattle.argot_tree.specs.declared.token.Token.{Token}
 use Rattle.argot_tree.specs.Forests.{Forest, leaf, beside, one}
 use Rattle.argot_tree.specs.TokensAt.{kind_at, HasAt, HasWord, HasMark, Passes, Fails, MaybeComma, is_semicolon, is_text, begins_type}
 use Rattle.argot_tree.specs.Grammar.{Spells, File, Imports, Import, Specs, Spec, Tops, Top, Decl, Receiver, MaybeReceiver, TypeParams, MaybeTypeParams, MaybeBody, Signature, AnyType, Block, no_top, one_top, no_body, a_body}
-use Rattle.argot_spelling.specs.declared.post.Post.{Post}
 use Rattle.argot_spelling.specs.Posts.{posts}
-use Rattle.argot_spelling.specs.Rooms.{room}
-use Rattle.argot_spelling.specs.Reading.{The, closed, is_at, is_mark}
+use Rattle.argot_spelling.specs.Reading.{The, is_at}
 use Rattle.argot_spelling.specs.FileReader.{is_end}
-use Rattle.argot_spelling.specs.Reader.{read}
 use Rattle.argot_spelling.proofs.Steps.{read_more}
 use Rattle.argot_spelling.proofs.TokenTests.{has_at}
 use Rattle.argot_spelling.proofs.PostLaws.{put_posts}
 use Rattle.argot_spelling.proofs.Exact.Nodes.{over, over_two, over_three, over_five, two, declared, names_it}
 use Rattle.argot_spelling.proofs.Exact.Ahead.{ahead}
 use Rattle.argot_spelling.proofs.Exact.Starts.{starts}
-use Rattle.argot_spelling.proofs.Exact.Tokens.{Not, other, apart, failing, ends_spec, begins_top, begins_decl, begins_spec, at_mark, at_word, by_kind, by_mark, by_test, within_at, within_mark, within_word, within_pass, EndsList, list_end}
+use Rattle.argot_spelling.proofs.Exact.Tokens.{Not, other, apart, failing, ends_spec, begins_top, at_mark, by_test, within_at, within_mark, within_word, within_pass, EndsList, list_end}
 use Rattle.argot_spelling.proofs.Exact.Lists.{end_passes, end_not, passed, paren}
 use Rattle.argot_spelling.proofs.Exact.NameRuns.{name_type}
 use Rattle.argot_spelling.proofs.Exact.Declarations.{semicolon_spec}
 use Rattle.argot_spelling.proofs.Exact.Seconds.{either_way}
-use Rattle.argot_spelling.proofs.Exact.Claims.{Gets, OfType, Exact}
+use Rattle.argot_spelling.proofs.Exact.Claims.{OfType, Exact}
 
 top_goes : (o : Option TokenKind) → begins_top o ≡ true → is_end o ≡ false
 top_goes None h = absurd (false≢true h)
@@ -46,10 +42,6 @@ receiver_untyped : (o : Option TokenKind) → ends_receiver o ≡ true → begin
 receiver_untyped (Some (kinds.Mark marks.CloseParen)) h = refl
 receiver_untyped (Some (kinds.Mark marks.Comma)) h = refl
 receiver_untyped _ h = absurd (false≢true h)
-
-both_false : (b : Bool) → (b && false) ≡ false
-both_false true = refl
-both_false false = refl
 
 module _ (tokens : List Token) where
   pub exact_spec : {from : ℕ} → Passes tokens is_text from → Exact tokens Spec (one nodes.Spec from (from + 1) (one nodes.ImportPath from (from + 1) leaf)) from (from + 1)
@@ -192,7 +184,7 @@ module _ (tokens : List Token) where
   receiver_unnamed {x} {from} {to} s ends =
       either_way (is_at tokens from kinds.Name)
       (λ n. let f : Fails tokens begins_type (from + 1) = ⊎_elim (λ e. subst (λ i. Fails tokens begins_type i) e (failing begins_type receiver_untyped (end_passes tokens ends_receiver ends refl refl))) (λ d. record { there = ap begins_type d.there }) (name_type tokens s (has_at from kinds.Name n)) in
-          simp (f.there, both_false))
+      simp (f.there, and-false))
       (λ n. simp n)
 
   pub exact_receiver_type : {x : Forest} {from mid to : ℕ} → HasMark tokens from marks.OpenParen → Spells tokens AnyType x (from + 1) mid → MaybeComma tokens mid to → HasMark tokens to marks.CloseParen → OfType tokens x (from + 1) mid → Exact tokens Receiver (one nodes.Params from (to + 1) (one nodes.Param (from + 1) mid x)) from (to + 1)

@@ -1,33 +1,31 @@
 -- The heads of statements: an `if` that is spelled is read, with the branches behind it.
-use Rattle.std.proofs.Common.{◌≡◌, ℕ, zero, suc, ◌+◌, ◌-◌, ◌*◌, ◌<◌, ◌≤◌, List, [], ◌∷◌, ◌++◌, length, Bool, true, false, ◌&&◌, Option, Some, None, refl, sym, ap, ◌∙◌, subst, inl, inr, ⊎_elim, arith}
-use Rattle.std.specs.Prelude.{◌==◌, ◌⊎◌, nat_le}
+use Rattle.std.proofs.Common.{◌≡◌, ℕ, ◌+◌, ◌-◌, ◌<◌, ◌≤◌, List, ◌∷◌, ◌++◌, length, true, false, Option, Some, refl, ◌∙◌, arith}
 use Rattle.std.proofs.lemmas.List.{append-nil}
-use Rattle.std.proofs.lemmas.Bool.{cases_Bool, false≢true, and_from, and_left, and_right, le-leb, lt-leb}
+use Rattle.std.proofs.lemmas.Bool.{false≢true}
 use Rattle.argot_tree.specs.declared.keyword.Keyword.TheVariants as words
 use Rattle.argot_tree.specs.declared.mark.Mark.TheVariants as marks
-use Rattle.argot_tree.specs.declared.node_kind.NodeKind.{NodeKind}
 use Rattle.argot_tree.specs.declared.node_kind.NodeKind.TheVariants as nodes
 use Rattle.argot_tree.specs.declared.token.TokenKind.{TokenKind}
 use Rattle.argot_tree.specs.declared.token.TokenKind.TheVariants as kinds
 use Rattle.argot_tree.specs.declared.token.Token.{Token}
 use Rattle.argot_tree.specs.Forests.{Forest, leaf, beside, one}
-use Rattle.argot_tree.specs.TokensAt.{kind_at, HasAt, HasWord, HasMark, Passes, Fails, is_semicolon}
-use Rattle.argot_tree.specs.Grammar.{Spells, Level, Block, Simple, If, MaybeInit, MaybeElse, last_expr}
+use Rattle.argot_tree.specs.TokensAt.{HasWord, HasMark, is_semicolon}
+use Rattle.argot_tree.specs.Grammar.{Spells, Level, Block, If, MaybeInit, MaybeElse, last_expr}
 use Rattle.argot_spelling.specs.declared.post.Post.{Post}
 use Rattle.argot_spelling.specs.Posts.{posts}
 use Rattle.argot_spelling.specs.Rooms.{room}
-use Rattle.argot_spelling.specs.Reading.{The, Ifs, closed, closed_all, is_at, is_mark}
-use Rattle.argot_spelling.specs.StatementReader.{defines, ends_stmt, opening_by, condition_by, else_by}
+use Rattle.argot_spelling.specs.Reading.{Ifs}
+use Rattle.argot_spelling.specs.StatementReader.{opening_by, condition_by}
 use Rattle.argot_spelling.specs.Reader.{read}
 use Rattle.argot_spelling.proofs.Steps.{read_more}
 use Rattle.argot_spelling.proofs.PostLaws.{put_posts}
 use Rattle.argot_spelling.proofs.Exact.Nodes.{over, over_four}
 use Rattle.argot_spelling.proofs.Exact.Ahead.{ahead}
 use Rattle.argot_spelling.proofs.Exact.Starts.{starts}
-use Rattle.argot_spelling.proofs.Exact.Tokens.{Not, other, apart, failing, follows, begins_expr, at_mark, at_word, by_kind, by_mark, by_test, within_at, within_mark, within_word, within_pass}
+use Rattle.argot_spelling.proofs.Exact.Tokens.{apart, failing, follows, begins_expr, at_mark, by_mark, within_word, within_pass}
 use Rattle.argot_spelling.proofs.Exact.Simples.{undefined_mark}
 use Rattle.argot_spelling.proofs.Exact.Levels.{level_gets}
-use Rattle.argot_spelling.proofs.Exact.Claims.{Gets, OfLevel, OfSimple, OfInit, no_statement, empty_statement, a_statement, Exact}
+use Rattle.argot_spelling.proofs.Exact.Claims.{OfLevel, OfInit, no_statement, empty_statement, a_statement, Exact}
 
 pub expr_no_semicolon : (o : Option TokenKind) → begins_expr o ≡ true → is_semicolon o ≡ false
 expr_no_semicolon (Some kinds.Inserted) h = absurd (false≢true h)

@@ -1,33 +1,31 @@
 -- Expressions of a level and prefixed operands that are spelled are read.
-use Rattle.std.proofs.Common.{◌≡◌, ℕ, zero, suc, ◌+◌, ◌-◌, ◌*◌, ◌<◌, ◌≤◌, List, [], ◌∷◌, ◌++◌, length, Bool, true, false, ◌&&◌, Option, Some, None, refl, sym, ap, ◌∙◌, subst, inl, inr, ⊎_elim, arith}
-use Rattle.std.specs.Prelude.{◌==◌, ◌⊎◌, nat_le}
-use Rattle.std.proofs.lemmas.List.{append-nil}
+use Rattle.std.proofs.Common.{◌≡◌, ℕ, zero, suc, ◌+◌, ◌-◌, ◌<◌, ◌≤◌, List, ◌++◌, length, Bool, true, false, ◌&&◌, Option, Some, None, refl, sym, ap, ◌∙◌, subst, ⊎_elim, arith}
+use Rattle.std.specs.Prelude.{nat_le}
+use Rattle.std.proofs.Math.Bool.{and-false}
 use Rattle.std.proofs.lemmas.Bool.{cases_Bool, false≢true, and_from, and_left, and_right, le-leb, lt-leb}
-use Rattle.argot_tree.specs.declared.keyword.Keyword.TheVariants as words
 use Rattle.argot_tree.specs.declared.mark.Mark.TheVariants as marks
 use Rattle.argot_tree.specs.declared.node_kind.NodeKind.{NodeKind}
 use Rattle.argot_tree.specs.declared.node_kind.NodeKind.TheVariants as nodes
 use Rattle.argot_tree.specs.declared.token.TokenKind.{TokenKind}
 use Rattle.argot_tree.specs.declared.token.TokenKind.TheVariants as kinds
 use Rattle.argot_tree.specs.declared.token.Token.{Token}
-use Rattle.argot_tree.specs.Forests.{Forest, leaf, beside, one}
-use Rattle.argot_tree.specs.TokensAt.{kind_at, HasAt, HasMark, HasUnary, Passes, Fails, level_of, level_at, unary_of}
+use Rattle.argot_tree.specs.Forests.{Forest, beside, one}
+use Rattle.argot_tree.specs.TokensAt.{kind_at, HasMark, HasUnary, Passes, level_of, level_at, unary_of}
 use Rattle.argot_tree.specs.Grammar.{Spells, Level, Unary, Primary, Operand, OnlyType, Either, unary}
 use Rattle.argot_spelling.specs.declared.post.Post.{Post}
 use Rattle.argot_spelling.specs.Posts.{posts}
 use Rattle.argot_spelling.specs.Rooms.{room}
-use Rattle.argot_spelling.specs.Reading.{The, UnaryOr, PrimaryOr, OperandOr, Climb, Suffixes, closed, is_at, is_mark, is_kind}
-use Rattle.argot_spelling.specs.TypeReader.{is_dotted}
-use Rattle.argot_spelling.specs.ExpressionReader.{climbs, typed}
+use Rattle.argot_spelling.specs.Reading.{The, UnaryOr, PrimaryOr, Climb, Suffixes, closed, is_mark}
+use Rattle.argot_spelling.specs.ExpressionReader.{climbs}
 use Rattle.argot_spelling.specs.Reader.{read}
 use Rattle.argot_spelling.proofs.Steps.{read_more}
-use Rattle.argot_spelling.proofs.TokenTests.{has_at, has_mark}
+use Rattle.argot_spelling.proofs.TokenTests.{has_mark}
 use Rattle.argot_spelling.proofs.Exact.Nodes.{over, over_two}
-use Rattle.argot_spelling.proofs.Exact.Roots.{rooted_typed, unary_root, primary_root, operand_root, only_root}
+use Rattle.argot_spelling.proofs.Exact.Roots.{rooted_typed, unary_root, operand_root, only_root}
 use Rattle.argot_spelling.proofs.Exact.Ahead.{ahead}
 use Rattle.argot_spelling.proofs.Exact.Starts.{starts}
-use Rattle.argot_spelling.proofs.Exact.Tokens.{Not, other, apart, stops, follows, begins_operand, at_mark, by_kind, by_mark, by_test, within_at, within_mark, within_pass}
-use Rattle.argot_spelling.proofs.Exact.Claims.{Gets, NoBrace, Stays, After, Climbs, OfLevel, Comes, OfPrimary, OfOnlyType, Exact}
+use Rattle.argot_spelling.proofs.Exact.Tokens.{apart, stops, follows, begins_operand, by_test, within_mark, within_pass}
+use Rattle.argot_spelling.proofs.Exact.Claims.{Gets, NoBrace, Stays, After, OfLevel, OfPrimary, OfOnlyType, Exact}
 
 -- a binary operator
 abbrev pub is_operator : Option TokenKind → Bool
@@ -132,10 +130,6 @@ operand_no_unary (Some (kinds.Mark marks.Star)) h = absurd (false≢true h)
 operand_no_unary (Some (kinds.Mark marks.And)) h = absurd (false≢true h)
 operand_no_unary (Some (kinds.Mark marks.Arrow)) h = absurd (false≢true h)
 operand_no_unary _ h = refl
-
-and_false : (b : Bool) → (b && false) ≡ false
-and_false true = refl
-and_false false = refl
 
 abbrev the_kind : Option NodeKind → NodeKind
 the_kind None = nodes.File
@@ -249,7 +243,7 @@ module _ (tokens : List Token) where
       let more : 0 < n = omega arith in
       let same : nodes.Deref ≡ kind = ap (λ o. the_kind o) (sym (ap unary_of star.there) ∙ h.there) in
       let reads = ih types (n - 1) out (omega arith) stays brace in
-      read_more tokens n (UnaryOr types b) from out more ∙ simp (star.there, reads, rooted_typed out (unary_root tokens s), and_false, over nodes.Deref from to out x) (ap (λ k. Some (to, out ++ posts (one k from to x))) same)
+      read_more tokens n (UnaryOr types b) from out more ∙ simp (star.there, reads, rooted_typed out (unary_root tokens s), and-false, over nodes.Deref from to out x) (ap (λ k. Some (to, out ++ posts (one k from to x))) same)
 
   unary_arrow : {kind : NodeKind} {b : Bool} {x : Forest} {from to : ℕ} → HasMark tokens from marks.Arrow → HasUnary tokens from kind → Spells tokens (Unary b) x (from + 1) to → Exact tokens (Unary b) x (from + 1) to → Exact tokens (Unary b) (one kind from to x) from to
   unary_arrow {kind} {b} {x} {from} {to} arrow h s ih = λ types n out enough stays brace.
@@ -257,7 +251,7 @@ module _ (tokens : List Token) where
       let more : 0 < n = omega arith in
       let same : nodes.Receive ≡ kind = ap (λ o. the_kind o) (sym (ap unary_of arrow.there) ∙ h.there) in
       let reads = ih types (n - 1) out (omega arith) stays brace in
-      read_more tokens n (UnaryOr types b) from out more ∙ simp (arrow.there, reads, rooted_typed out (unary_root tokens s), and_false, over nodes.Receive from to out x) (ap (λ k. Some (to, out ++ posts (one k from to x))) same)
+      read_more tokens n (UnaryOr types b) from out more ∙ simp (arrow.there, reads, rooted_typed out (unary_root tokens s), and-false, over nodes.Receive from to out x) (ap (λ k. Some (to, out ++ posts (one k from to x))) same)
 
   unary_other : {kind : NodeKind} {b : Bool} {x : Forest} {from to : ℕ} → is_mark tokens from marks.Star ≡ false → is_mark tokens from marks.Arrow ≡ false → HasUnary tokens from kind → Spells tokens (Unary b) x (from + 1) to → Exact tokens (Unary b) x (from + 1) to → Exact tokens (Unary b) (one kind from to x) from to
   unary_other {kind} {b} {x} {from} {to} star arrow h s ih = λ types n out enough stays brace.
@@ -290,7 +284,7 @@ module _ (tokens : List Token) where
       record {
         steps = n - 1;
         enough = omega (arith, ahead tokens s);
-        comes = read_more tokens n (PrimaryOr types b) from out more ∙ simp (reads, rooted_typed out (operand_root tokens s), and_false);
+        comes = read_more tokens n (PrimaryOr types b) from out more ∙ simp (reads, rooted_typed out (operand_root tokens s), and-false);
       }
 
   pub exact_either_expr : {x : Forest} {from to : ℕ} → Spells tokens (Level 1 true) x from to → OfLevel tokens 1 true x from to → Exact tokens Either x from to

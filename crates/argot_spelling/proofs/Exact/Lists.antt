@@ -1,14 +1,14 @@
 -- The end of a list: its closer, with a comma before it or without.
-use Rattle.std.proofs.Common.{◌≡◌, ℕ, ◌+◌, List, Bool, true, false, Option, Some, None, refl, sym, ap, ◌∙◌}
+use Rattle.std.proofs.Common.{◌≡◌, ℕ, ◌+◌, List, Bool, true, false, Option, Some}
 use Rattle.std.specs.Prelude.{◌==◌}
 use Rattle.argot_tree.specs.declared.mark.Mark.{Mark}
 use Rattle.argot_tree.specs.declared.mark.Mark.TheVariants as marks
 use Rattle.argot_tree.specs.declared.token.TokenKind.{TokenKind}
 use Rattle.argot_tree.specs.declared.token.TokenKind.TheVariants as kinds
 use Rattle.argot_tree.specs.declared.token.Token.{Token}
-use Rattle.argot_tree.specs.TokensAt.{kind_at, HasAt, HasMark, Passes, MaybeComma, left_out, comma}
+use Rattle.argot_tree.specs.TokensAt.{HasMark, Passes, MaybeComma, left_out, comma}
 use Rattle.argot_spelling.specs.declared.post.Post.{Post}
-use Rattle.argot_spelling.specs.Reading.{kind_number, is_mark, is_kind, past_list, goes_on}
+use Rattle.argot_spelling.specs.Reading.{kind_number, is_mark, past_list, goes_on}
 use Rattle.argot_spelling.proofs.Exact.Tokens.{Not, other, at_mark, by_mark, EndsList, closed_here, comma_before}
 
 module _ (tokens : List Token) where

@@ -1,7 +1,7 @@
 -- Fields and the elements of interfaces that are spelled are read.
-use Rattle.std.proofs.Common.{◌≡◌, ℕ, ◌+◌, ◌-◌, ◌*◌, ◌<◌, ◌≤◌, List, [], ◌∷◌, ◌++◌, length, Bool, true, false, ◌&&◌, Option, Some, None, refl, sym, ap, ◌∙◌, subst, arith}
-use Rattle.std.specs.Prelude.{◌==◌}
+use Rattle.std.proofs.Common.{◌≡◌, ℕ, ◌+◌, ◌-◌, ◌<◌, List, ◌++◌, Bool, true, false, ◌&&◌, Option, Some, refl, ap, ◌∙◌, arith}
 use Rattle.std.proofs.lemmas.List.{append-nil}
+use Rattle.std.proofs.Math.Bool.{and-false}
 use Rattle.std.proofs.lemmas.Bool.{false≢true}
 use Rattle.argot_tree.specs.declared.mark.Mark.TheVariants as marks
 use Rattle.argot_tree.specs.declared.node_kind.NodeKind.TheVariants as nodes
@@ -9,22 +9,19 @@ use Rattle.argot_tree.specs.declared.token.TokenKind.{TokenKind}
 use Rattle.argot_tree.specs.declared.token.TokenKind.TheVariants as kinds
 use Rattle.argot_tree.specs.declared.token.Token.{Token}
 use Rattle.argot_tree.specs.Forests.{Forest, leaf, beside, one}
-use Rattle.argot_tree.specs.TokensAt.{kind_at, HasAt, HasMark, Passes, Fails, is_text, is_semicolon, begins_type}
+use Rattle.argot_tree.specs.TokensAt.{kind_at, HasAt, HasMark, Passes, is_text, is_semicolon, begins_type}
 use Rattle.argot_tree.specs.Grammar.{Spells, AnyType, Names, Signature, Embedded, MaybeTag, Fields, Field, Elements, Element, no_tag, a_tag, embedded_name, embedded_qualified, last_name, one_name}
-use Rattle.argot_spelling.specs.declared.post.Post.{Post}
 use Rattle.argot_spelling.specs.Posts.{posts}
-use Rattle.argot_spelling.specs.Rooms.{room}
-use Rattle.argot_spelling.specs.Reading.{The, is_at, is_mark, names_then}
+use Rattle.argot_spelling.specs.Reading.{The, is_at, names_then}
 use Rattle.argot_spelling.specs.StatementReader.{ends_stmt}
-use Rattle.argot_spelling.specs.Reader.{read}
 use Rattle.argot_spelling.proofs.Steps.{read_more}
 use Rattle.argot_spelling.proofs.PostLaws.{put_posts}
 use Rattle.argot_spelling.proofs.Exact.Nodes.{over, over_two, over_three, two, declared, names_it}
 use Rattle.argot_spelling.proofs.Exact.Ahead.{ahead}
 use Rattle.argot_spelling.proofs.Exact.Starts.{starts}
-use Rattle.argot_spelling.proofs.Exact.Tokens.{Not, other, apart, failing, begins_field, at_mark, by_kind, by_mark, by_test, within_at, within_mark, within_pass}
+use Rattle.argot_spelling.proofs.Exact.Tokens.{Not, other, apart, failing, at_mark, by_mark, by_test, within_at, within_pass}
 use Rattle.argot_spelling.proofs.Exact.NameRuns.{names_stop, names_end, then_not}
-use Rattle.argot_spelling.proofs.Exact.Claims.{Gets, OfType, OfEmbedded, Exact}
+use Rattle.argot_spelling.proofs.Exact.Claims.{OfType, OfEmbedded, Exact}
 
 -- what stands behind the type of a field
 abbrev ends_embedded : Option TokenKind → Bool
@@ -60,10 +57,6 @@ semicolon_ends (Some kinds.Inserted) h = refl
 semicolon_ends (Some (kinds.Mark marks.Semicolon)) h = refl
 semicolon_ends _ h = absurd (false≢true h)
 
-both_false : (b : Bool) → (b && false) ≡ false
-both_false true = refl
-both_false false = refl
-
 module _ (tokens : List Token) where
   tag_follows : {x : Forest} {from to : ℕ} → Spells tokens MaybeTag x from to → Passes tokens ends_stmt to → Passes tokens ends_embedded from
   tag_follows no_tag ends = by_test ends_embedded stmt_embedded ends
@@ -93,7 +86,7 @@ module _ (tokens : List Token) where
   embedded_unnamed {x} {from} {to} (embedded_name h) ends =
       let comma = apart (kinds.Mark marks.Comma) ends refl in
       let untyped = failing begins_type embedded_untyped ends in
-      ap (λ j. is_at tokens from kinds.Name && begins_type (kind_at tokens j)) (names_stop tokens from (simp comma.is)) ∙ simp (untyped.there, both_false)
+      ap (λ j. is_at tokens from kinds.Name && begins_type (kind_at tokens j)) (names_stop tokens from (simp comma.is)) ∙ simp (untyped.there, and-false)
   embedded_unnamed {x} {from} {to} (embedded_qualified h d i) ends = then_not tokens begins_type from (kinds.Mark marks.Dot) (at_mark d) refl refl
 
   pub names_forward : {x : Forest} {from to : ℕ} → Spells tokens Names x from to → from < to
@@ -115,7 +108,7 @@ module _ (tokens : List Token) where
       let more : 0 < n = omega arith in
       let comma = apart (kinds.Mark marks.Comma) start refl in
       let named : names_then tokens begins_type from ≡ true =
-          ap (λ j. is_at tokens from kinds.Name && begins_type (kind_at tokens j)) (names_end tokens s comma) ∙ simp (name.there, start.there) in
+      ap (λ j. is_at tokens from kinds.Name && begins_type (kind_at tokens j)) (names_end tokens s comma) ∙ simp (name.there, start.there) in
       let reads = ihx (n - 1) out (omega arith) comma in
       let names = one nodes.Names from mid x in
       let type = ihy.gets (n - 1) (out ++ posts names) (omega (arith, names_forward s)) (apart (kinds.Mark marks.Dot) (tag_follows u ends) refl) in

@@ -1,29 +1,24 @@
 -- The run of names at the front, and what stands behind it.
-use Rattle.std.proofs.Common.{◌≡◌, ℕ, zero, suc, ◌+◌, ◌-◌, ◌*◌, ◌<◌, ◌≤◌, List, [], ◌∷◌, ◌++◌, length, Bool, true, false, ◌&&◌, Option, Some, None, refl, sym, ap, ◌∙◌, subst, inl, inr, ⊎_elim, arith}
-use Rattle.std.specs.Prelude.{slice_get, ◌==◌, ◌⊎◌, drop}
+use Rattle.std.proofs.Common.{◌≡◌, ℕ, zero, suc, ◌+◌, List, [], ◌∷◌, Bool, true, false, ◌&&◌, Option, Some, None, refl, sym, ap, ◌∙◌, subst, inl, inr, ⊎_elim, arith}
+use Rattle.std.specs.Prelude.{◌⊎◌, drop}
+use Rattle.std.proofs.Math.Bool.{and-false}
 use Rattle.std.proofs.lemmas.Bool.{cases_Bool, false≢true}
-use Rattle.argot_tree.specs.declared.keyword.Keyword.TheVariants as words
 use Rattle.argot_tree.specs.declared.mark.Mark.TheVariants as marks
-use Rattle.argot_tree.specs.declared.node_kind.NodeKind.TheVariants as nodes
 use Rattle.argot_tree.specs.declared.token.TokenKind.{TokenKind}
 use Rattle.argot_tree.specs.declared.token.TokenKind.TheVariants as kinds
 use Rattle.argot_tree.specs.declared.token.Token.{Token}
-use Rattle.argot_tree.specs.Forests.{Forest, leaf, beside, one}
-use Rattle.argot_tree.specs.TokensAt.{kind_at, HasAt, HasWord, HasMark, Passes, Fails, begins_type}
-use Rattle.argot_tree.specs.Grammar.{Spells, AnyType, OnlyType, Names, Types, NamedList, Embedded, type_name, qualified_type, type_parens, pointer_type, formed_type, last_name, one_name, last_param, one_param, variadic_param, last_named, one_named, lone_named, variadic_named, embedded_name, embedded_qualified}
+use Rattle.argot_tree.specs.Forests.{Forest}
+use Rattle.argot_tree.specs.TokensAt.{kind_at, HasAt, HasMark, Passes, begins_type}
+use Rattle.argot_tree.specs.Grammar.{Spells, AnyType, Names, Types, NamedList, type_name, qualified_type, type_parens, pointer_type, formed_type, last_name, one_name, last_param, one_param, variadic_param, last_named, one_named, lone_named, variadic_named}
 use Rattle.argot_spelling.specs.Reading.{is_kind, is_at, is_mark, more_names, behind_names, names_then}
 use Rattle.argot_spelling.specs.TypeReader.{begins_parameter}
-use Rattle.argot_spelling.proofs.TokenTests.{has_at, has_mark}
+use Rattle.argot_spelling.proofs.TokenTests.{has_at}
 use Rattle.argot_spelling.proofs.Exact.Starts.{starts}
-use Rattle.argot_spelling.proofs.Exact.Tokens.{Not, other, apart, at_mark, at_word, by_kind, by_mark, begins_only, begins_entry, EndsList, closed_here, comma_before}
+use Rattle.argot_spelling.proofs.Exact.Tokens.{Not, other, apart, at_mark, EndsList, closed_here, comma_before}
 
 no_token : (tokens : List Token) (at : ℕ) → (kind_at [] at) ≡ None
 no_token tokens zero = refl
 no_token tokens (suc at) = refl
-
-both_false : (b : Bool) → (b && false) ≡ false
-both_false true = refl
-both_false false = refl
 
 run_ends : (tokens : List Token) (at : ℕ) → (is_mark tokens at marks.Comma && is_at tokens (at + 1) kinds.Name) ≡ false → more_names (drop at tokens) ≡ 0
 run_ends [] zero h = refl
@@ -69,12 +64,12 @@ module _ (tokens : List Token) where
   pub then_not : (test : Option TokenKind → Bool) (at : ℕ) (kind : TokenKind) → HasAt tokens (at + 1) kind → (is_kind (Some kind) (kinds.Mark marks.Comma)) ≡ false → test (Some kind) ≡ false → names_then tokens test at ≡ false
   then_not test at kind h no_comma e =
       let run = names_stop at (simp (h.there, no_comma)) in
-      ap (λ j. is_at tokens at kinds.Name && test (kind_at tokens j)) run ∙ simp (h.there, e, both_false)
+      ap (λ j. is_at tokens at kinds.Name && test (kind_at tokens j)) run ∙ simp (h.there, e, and-false)
 
   then_comma : (test : Option TokenKind → Bool) (at : ℕ) → HasMark tokens (at + 1) marks.Comma → is_at tokens (at + 2) kinds.Name ≡ false → test (Some (kinds.Mark marks.Comma)) ≡ false → names_then tokens test at ≡ false
   then_comma test at h no_name e =
       let run = names_stop at (simp (h.there, no_name)) in
-      ap (λ j. is_at tokens at kinds.Name && test (kind_at tokens j)) run ∙ simp (h.there, e, both_false)
+      ap (λ j. is_at tokens at kinds.Name && test (kind_at tokens j)) run ∙ simp (h.there, e, and-false)
 
   -- a type that begins with a name
   pub name_type : {x : Forest} {from to : ℕ} → Spells tokens AnyType x from to → HasAt tokens from kinds.Name → (to ≡ from + 1) ⊎ HasMark tokens (from + 1) marks.Dot
@@ -109,8 +104,8 @@ module _ (tokens : List Token) where
       let behind : names_then tokens begins_parameter (from + 2) ≡ false = subst (λ i. names_then tokens begins_parameter i ≡ false) next rest in
       by_name (from + 2)
       (λ n. let run = names_go from comma n in
-          let tested : begins_parameter (kind_at tokens (behind_names tokens (from + 2))) ≡ false = simp n.there at behind in
-          ap (λ j. is_at tokens from kinds.Name && begins_parameter (kind_at tokens j)) run ∙ ap (λ v. is_at tokens from kinds.Name && v) tested ∙ both_false (is_at tokens from kinds.Name))
+      let tested : begins_parameter (kind_at tokens (behind_names tokens (from + 2))) ≡ false = simp n.there at behind in
+      ap (λ j. is_at tokens from kinds.Name && begins_parameter (kind_at tokens j)) run ∙ ap (λ v. is_at tokens from kinds.Name && v) tested ∙ and-false (is_at tokens from kinds.Name))
       (λ n. then_comma begins_parameter from comma n refl)
 
   -- parameters without names

@@ -1,35 +1,26 @@
 -- Types that are no expressions, and that are spelled, are read, alone and where an expression may stand too.
-use Rattle.std.proofs.Common.{◌≡◌, ℕ, zero, suc, ◌+◌, ◌-◌, ◌*◌, ◌<◌, ◌≤◌, List, [], ◌∷◌, ◌++◌, length, Bool, true, false, ◌&&◌, Option, Some, None, refl, sym, ap, ◌∙◌, subst, inl, inr, ⊎_elim, arith, append_assoc, length-append}
-use Rattle.std.specs.Prelude.{slice_get, ◌==◌, ◌⊎◌, reverse, drop}
-use Rattle.std.proofs.lemmas.List.{append-nil, reverse-append, reverse-reverse}
-use Rattle.std.proofs.Math.Seq.{drop-append_seam}
-use Rattle.std.proofs.lemmas.Bool.{eq-eqb, cases_Bool, false≢true}
+use Rattle.std.proofs.Common.{◌≡◌, ℕ, ◌+◌, ◌-◌, ◌<◌, ◌≤◌, List, ◌++◌, length, true, false, ◌&&◌, refl, sym, ap, ◌∙◌, arith}
+use Rattle.std.proofs.lemmas.Bool.{false≢true}
 use Rattle.argot_tree.specs.declared.keyword.Keyword.TheVariants as words
 use Rattle.argot_tree.specs.declared.mark.Mark.TheVariants as marks
-use Rattle.argot_tree.specs.declared.node_kind.NodeKind.{NodeKind}
 use Rattle.argot_tree.specs.declared.node_kind.NodeKind.TheVariants as nodes
-use Rattle.argot_tree.specs.declared.token.TokenKind.{TokenKind}
 use Rattle.argot_tree.specs.declared.token.TokenKind.TheVariants as kinds
 use Rattle.argot_tree.specs.declared.token.Token.{Token}
-use Rattle.argot_tree.specs.Forests.{Forest, leaf, beside, one, size, last_token}
-use Rattle.argot_tree.specs.TokensAt.{kind_at, HasAt, HasWord, HasMark, Passes, Fails, is_star, is_arrow, begins_type, begins_conversion, unary_of}
+use Rattle.argot_tree.specs.Forests.{Forest, beside, one}
+use Rattle.argot_tree.specs.TokensAt.{HasWord, HasMark, Passes, Fails, is_star, is_arrow, begins_conversion}
 use Rattle.argot_tree.specs.Grammar.{Spells, AnyType, OnlyType, Signature, Fields, Elements, Level}
 use Rattle.argot_spelling.specs.declared.post.Post.{Post}
 use Rattle.argot_spelling.specs.Posts.{posts}
 use Rattle.argot_spelling.specs.Rooms.{room}
-use Rattle.argot_spelling.specs.Reading.{The, UnaryOr, PrimaryOr, OperandOr, closed, is_at, is_mark, is_word}
-use Rattle.argot_spelling.specs.ExpressionReader.{is_type, typed, recast}
-use Rattle.argot_spelling.specs.Reader.{read}
+use Rattle.argot_spelling.specs.Reading.{The, UnaryOr, PrimaryOr, OperandOr, is_mark, is_word}
 use Rattle.argot_spelling.proofs.Steps.{read_more}
-use Rattle.argot_spelling.proofs.TokenTests.{has_mark}
-use Rattle.argot_spelling.proofs.PostLaws.{put_posts, length-posts}
 use Rattle.argot_spelling.proofs.Exact.Nodes.{over, over_two}
-use Rattle.argot_spelling.proofs.Exact.Roots.{Rooted, rooted_typed, last_post, only_root}
+use Rattle.argot_spelling.proofs.Exact.Roots.{rooted_typed, only_root}
 use Rattle.argot_spelling.proofs.Exact.Ahead.{ahead}
 use Rattle.argot_spelling.proofs.Exact.Starts.{starts}
-use Rattle.argot_spelling.proofs.Exact.Tokens.{Not, other, apart, lacking, failing, stops, at_mark, at_word, by_kind, by_mark, by_word, fails_mark, within_at, within_mark, within_word}
-use Rattle.argot_spelling.proofs.Exact.Claims.{Gets, Recasts, OfType, OfOnlyType, OfArrow, OfLevel, Exact}
-use Rattle.argot_spelling.proofs.Exact.TypeParts.{no_arrow, Ending, ending, undotted, stands_among}
+use Rattle.argot_spelling.proofs.Exact.Tokens.{Not, other, apart, lacking, at_mark, at_word, by_mark, by_word, within_mark, within_word}
+use Rattle.argot_spelling.proofs.Exact.Claims.{Gets, OfType, OfOnlyType, Exact}
+use Rattle.argot_spelling.proofs.Exact.TypeParts.{no_arrow, ending, undotted, stands_among}
 
 module _ (tokens : List Token) where
   -- what is read alone is read among expressions
@@ -59,69 +50,69 @@ module _ (tokens : List Token) where
       let bracket = apart (kinds.Mark marks.CloseBracket) start refl in
       both_ways whole (by_mark begins_conversion h refl) (simp h.there) (simp (h.there, dots.is)) (within_mark h)
       (λ n out enough dot.
-          let within = within_mark h in
-          let forward = ahead tokens s in
-          let more : 0 < n = omega arith in
-          let reads = ihx (n - 1) out (omega arith) in
-          let then = ihy.gets (n - 1) (out ++ posts x) (omega arith) dot in
-          read_more tokens n (The OnlyType) from out more ∙ simp (h.there, bracket.is, reads, c.there, then, over_two nodes.ArrayType from to out x y))
+      let within = within_mark h in
+      let forward = ahead tokens s in
+      let more : 0 < n = omega arith in
+      let reads = ihx (n - 1) out (omega arith) in
+      let then = ihy.gets (n - 1) (out ++ posts x) (omega arith) dot in
+      read_more tokens n (The OnlyType) from out more ∙ simp (h.there, bracket.is, reads, c.there, then, over_two nodes.ArrayType from to out x y))
 
   pub exact_slice_type : {x : Forest} {from to : ℕ} → HasMark tokens from marks.OpenBracket → HasMark tokens (from + 1) marks.CloseBracket → Spells tokens AnyType x (from + 2) to → Spells tokens OnlyType (one nodes.SliceType from to x) from to → OfType tokens x (from + 2) to → OfOnlyType tokens (one nodes.SliceType from to x) from to
   exact_slice_type {x} {from} {to} h c s whole ih =
       both_ways whole (by_mark begins_conversion h refl) (simp h.there) (simp (h.there, c.there)) (within_mark h)
       (λ n out enough dot.
-          let within = within_mark h in
-          let more : 0 < n = omega arith in
-          let reads = ih.gets (n - 1) out (omega arith) dot in
-          read_more tokens n (The OnlyType) from out more ∙ simp (h.there, c.there, reads, over nodes.SliceType from to out x))
+      let within = within_mark h in
+      let more : 0 < n = omega arith in
+      let reads = ih.gets (n - 1) out (omega arith) dot in
+      read_more tokens n (The OnlyType) from out more ∙ simp (h.there, c.there, reads, over nodes.SliceType from to out x))
 
   pub exact_map_type : {x y : Forest} {from mid to : ℕ} → HasWord tokens from words.Map → HasMark tokens (from + 1) marks.OpenBracket → Spells tokens AnyType x (from + 2) mid → HasMark tokens mid marks.CloseBracket → Spells tokens AnyType y (mid + 1) to → Spells tokens OnlyType (one nodes.MapType from to (beside x y)) from to → OfType tokens x (from + 2) mid → OfType tokens y (mid + 1) to → OfOnlyType tokens (one nodes.MapType from to (beside x y)) from to
   exact_map_type {x} {y} {from} {mid} {to} h o s c t whole ihx ihy =
       both_ways whole (by_word begins_conversion h refl) (simp h.there) (simp h.there) (within_word h)
       (λ n out enough dot.
-          let within = within_word h in
-          let forward = ahead tokens s in
-          let more : 0 < n = omega arith in
-          let reads = ihx.gets (n - 1) out (omega arith) (other (kinds.Mark marks.Dot) (at_mark c) refl) in
-          let then = ihy.gets (n - 1) (out ++ posts x) (omega arith) dot in
-          read_more tokens n (The OnlyType) from out more ∙ simp (h.there, o.there, reads, c.there, then, over_two nodes.MapType from to out x y))
+      let within = within_word h in
+      let forward = ahead tokens s in
+      let more : 0 < n = omega arith in
+      let reads = ihx.gets (n - 1) out (omega arith) (other (kinds.Mark marks.Dot) (at_mark c) refl) in
+      let then = ihy.gets (n - 1) (out ++ posts x) (omega arith) dot in
+      read_more tokens n (The OnlyType) from out more ∙ simp (h.there, o.there, reads, c.there, then, over_two nodes.MapType from to out x y))
 
   pub exact_chan_type : {x : Forest} {from to : ℕ} → HasWord tokens from words.Chan → Fails tokens is_arrow (from + 1) → Spells tokens AnyType x (from + 1) to → Spells tokens OnlyType (one nodes.ChanType from to x) from to → OfType tokens x (from + 1) to → OfOnlyType tokens (one nodes.ChanType from to x) from to
   exact_chan_type {x} {from} {to} h f s whole ih =
       both_ways whole (by_word begins_conversion h refl) (simp h.there) (simp h.there) (within_word h)
       (λ n out enough dot.
-          let within = within_word h in
-          let more : 0 < n = omega arith in
-          let reads = ih.gets (n - 1) out (omega arith) dot in
-          let arrow = lacking (kinds.Mark marks.Arrow) f refl in
-          read_more tokens n (The OnlyType) from out more ∙ simp (h.there, arrow.is, reads, over nodes.ChanType from to out x))
+      let within = within_word h in
+      let more : 0 < n = omega arith in
+      let reads = ih.gets (n - 1) out (omega arith) dot in
+      let arrow = lacking (kinds.Mark marks.Arrow) f refl in
+      read_more tokens n (The OnlyType) from out more ∙ simp (h.there, arrow.is, reads, over nodes.ChanType from to out x))
 
   pub exact_send_type : {x : Forest} {from to : ℕ} → HasWord tokens from words.Chan → HasMark tokens (from + 1) marks.Arrow → Spells tokens AnyType x (from + 2) to → Spells tokens OnlyType (one nodes.SendType from to x) from to → OfType tokens x (from + 2) to → OfOnlyType tokens (one nodes.SendType from to x) from to
   exact_send_type {x} {from} {to} h a s whole ih =
       both_ways whole (by_word begins_conversion h refl) (simp h.there) (simp h.there) (within_word h)
       (λ n out enough dot.
-          let within = within_word h in
-          let more : 0 < n = omega arith in
-          let reads = ih.gets (n - 1) out (omega arith) dot in
-          read_more tokens n (The OnlyType) from out more ∙ simp (h.there, a.there, reads, over nodes.SendType from to out x))
+      let within = within_word h in
+      let more : 0 < n = omega arith in
+      let reads = ih.gets (n - 1) out (omega arith) dot in
+      read_more tokens n (The OnlyType) from out more ∙ simp (h.there, a.there, reads, over nodes.SendType from to out x))
 
   pub exact_struct_type : {x : Forest} {from to : ℕ} → HasWord tokens from words.Struct → HasMark tokens (from + 1) marks.OpenBrace → Spells tokens Fields x (from + 2) to → HasMark tokens to marks.CloseBrace → Spells tokens OnlyType (one nodes.StructType from (to + 1) x) from (to + 1) → Exact tokens Fields x (from + 2) to → OfOnlyType tokens (one nodes.StructType from (to + 1) x) from (to + 1)
   exact_struct_type {x} {from} {to} h o s c whole ih =
       both_ways whole (by_word begins_conversion h refl) (simp h.there) (simp h.there) (within_word h)
       (λ n out enough dot.
-          let within = within_word h in
-          let more : 0 < n = omega arith in
-          let reads = ih (n - 1) out (omega arith) c in
-          read_more tokens n (The OnlyType) from out more ∙ simp (h.there, o.there, reads, c.there, over nodes.StructType from (to + 1) out x))
+      let within = within_word h in
+      let more : 0 < n = omega arith in
+      let reads = ih (n - 1) out (omega arith) c in
+      read_more tokens n (The OnlyType) from out more ∙ simp (h.there, o.there, reads, c.there, over nodes.StructType from (to + 1) out x))
 
   pub exact_interface_type : {x : Forest} {from to : ℕ} → HasWord tokens from words.Interface → HasMark tokens (from + 1) marks.OpenBrace → Spells tokens Elements x (from + 2) to → HasMark tokens to marks.CloseBrace → Spells tokens OnlyType (one nodes.InterfaceType from (to + 1) x) from (to + 1) → Exact tokens Elements x (from + 2) to → OfOnlyType tokens (one nodes.InterfaceType from (to + 1) x) from (to + 1)
   exact_interface_type {x} {from} {to} h o s c whole ih =
       both_ways whole (by_word begins_conversion h refl) (simp h.there) (simp h.there) (within_word h)
       (λ n out enough dot.
-          let within = within_word h in
-          let more : 0 < n = omega arith in
-          let reads = ih (n - 1) out (omega arith) c in
-          read_more tokens n (The OnlyType) from out more ∙ simp (h.there, o.there, reads, c.there, over nodes.InterfaceType from (to + 1) out x))
+      let within = within_word h in
+      let more : 0 < n = omega arith in
+      let reads = ih (n - 1) out (omega arith) c in
+      read_more tokens n (The OnlyType) from out more ∙ simp (h.there, o.there, reads, c.there, over nodes.InterfaceType from (to + 1) out x))
 
   pub exact_func_type : {x : Forest} {from to : ℕ} → HasWord tokens from words.Func → Spells tokens Signature x (from + 1) to → Spells tokens OnlyType (one nodes.FuncType from to x) from to → Exact tokens Signature x (from + 1) to → OfOnlyType tokens (one nodes.FuncType from to x) from to
   exact_func_type {x} {from} {to} h s whole ih = record {
@@ -138,9 +129,9 @@ module _ (tokens : List Token) where
         let e = ending tokens stop in
         let reads = ih (n - 1 - 1 - 1) out (omega arith) (undotted tokens stop) in
         let operand : Gets tokens (n - 1 - 1) (OperandOr true true) from out (one nodes.FuncType from to x) to =
-            read_more tokens (n - 1 - 1) (OperandOr true true) from out three_more ∙ simp (h.there, reads, e.brace, e.paren, over nodes.FuncType from to out x) in
+        read_more tokens (n - 1 - 1) (OperandOr true true) from out three_more ∙ simp (h.there, reads, e.brace, e.paren, over nodes.FuncType from to out x) in
         let primary : Gets tokens (n - 1) (PrimaryOr true true) from out (one nodes.FuncType from to x) to =
-            read_more tokens (n - 1) (PrimaryOr true true) from out two_more ∙ simp (operand, rooted_typed out (only_root tokens whole)) in
+        read_more tokens (n - 1) (PrimaryOr true true) from out two_more ∙ simp (operand, rooted_typed out (only_root tokens whole)) in
         read_more tokens n (UnaryOr true true) from out one_more ∙ simp (h.there, primary);
     arrow = no_arrow tokens (other (kinds.Mark marks.Arrow) (at_word h) refl);
   }

@@ -1,13 +1,11 @@
 -- Operands that are spelled are read: names, literals, parentheses, functions, composite literals and conversions.
-use Rattle.std.proofs.Common.{◌≡◌, ℕ, zero, suc, ◌+◌, ◌-◌, ◌*◌, ◌<◌, ◌≤◌, List, [], ◌∷◌, ◌++◌, length, Bool, true, false, ◌&&◌, Option, Some, None, refl, sym, ap, ◌∙◌, subst, inl, inr, ⊎_elim, arith}
-use Rattle.std.specs.Prelude.{◌==◌, ◌⊎◌, nat_le}
-use Rattle.std.proofs.lemmas.List.{append-nil}
-use Rattle.std.proofs.lemmas.Bool.{cases_Bool, false≢true, and_from, and_left, and_right, le-leb, lt-leb}
+use Rattle.std.proofs.Common.{◌≡◌, ℕ, ◌+◌, ◌-◌, ◌<◌, ◌≤◌, List, [], ◌++◌, length, Bool, true, false, Some, None, refl, sym, ap, ◌∙◌, ⊎_elim, arith}
+use Rattle.std.proofs.Math.Bool.{and-false}
+use Rattle.std.proofs.lemmas.Bool.{cases_Bool, false≢true}
 use Rattle.argot_tree.specs.declared.keyword.Keyword.TheVariants as words
 use Rattle.argot_tree.specs.declared.mark.Mark.TheVariants as marks
 use Rattle.argot_tree.specs.declared.node_kind.NodeKind.{NodeKind}
 use Rattle.argot_tree.specs.declared.node_kind.NodeKind.TheVariants as nodes
-use Rattle.argot_tree.specs.declared.token.TokenKind.{TokenKind}
 use Rattle.argot_tree.specs.declared.token.TokenKind.TheVariants as kinds
 use Rattle.argot_tree.specs.declared.token.Token.{Token}
 use Rattle.argot_tree.specs.Forests.{Forest, leaf, beside, one}
@@ -16,25 +14,21 @@ use Rattle.argot_tree.specs.Grammar.{Spells, Level, AnyType, OnlyType, Signature
 use Rattle.argot_spelling.specs.declared.post.Post.{Post}
 use Rattle.argot_spelling.specs.Posts.{posts}
 use Rattle.argot_spelling.specs.Rooms.{room}
-use Rattle.argot_spelling.specs.Reading.{The, OperandOr, Answer, ◌>>=◌, closed, closing, is_at, is_mark, is_word, past_list}
-use Rattle.argot_spelling.specs.TypeReader.{is_dotted, named_type_by}
+use Rattle.argot_spelling.specs.Reading.{The, OperandOr, Answer, ◌>>=◌, closed, closing, is_word}
+use Rattle.argot_spelling.specs.TypeReader.{is_dotted}
 use Rattle.argot_spelling.specs.ExpressionReader.{is_open_array}
 use Rattle.argot_spelling.specs.Reader.{read}
 use Rattle.argot_spelling.proofs.Steps.{read_more}
 use Rattle.argot_spelling.proofs.TokenTests.{has_word}
 use Rattle.argot_spelling.proofs.PostLaws.{put_posts}
 use Rattle.argot_spelling.proofs.Exact.Nodes.{over, over_two}
-use Rattle.argot_spelling.proofs.Exact.Ahead.{ahead, comma_ahead}
-use Rattle.argot_spelling.proofs.Exact.Starts.{starts, composite_conversion, conversion_operand}
-use Rattle.argot_spelling.proofs.Exact.Tokens.{Not, other, apart, stops, follows, begins_only, begins_operand, at_mark, at_word, by_kind, by_mark, by_test, within_at, within_mark, within_word, within_pass, list_end}
+use Rattle.argot_spelling.proofs.Exact.Ahead.{ahead}
+use Rattle.argot_spelling.proofs.Exact.Starts.{starts, composite_conversion}
+use Rattle.argot_spelling.proofs.Exact.Tokens.{Not, other, apart, stops, follows, at_mark, at_word, by_kind, by_mark, by_test, within_at, within_mark, within_word, within_pass, list_end}
 use Rattle.argot_spelling.proofs.Exact.Lists.{end_passes, passed, paren}
 use Rattle.argot_spelling.proofs.Exact.TypeParts.{conversion_literal}
 use Rattle.argot_spelling.proofs.Exact.Levels.{level_gets}
 use Rattle.argot_spelling.proofs.Exact.Claims.{Gets, NoBrace, WholeOperand, OfLevel, OfType, OfEmbedded, Exact}
-
-and_false : (b : Bool) → (b && false) ≡ false
-and_false true = refl
-and_false false = refl
 
 abbrev place_of : Answer → ℕ
 place_of None = 0
@@ -206,7 +200,7 @@ module _ (tokens : List Token) where
       let open_paren = apart (kinds.Mark marks.OpenParen) start refl in
       let reads = only_reads (n - 1) out ihx start (omega arith) (other (kinds.Mark marks.Dot) (at_mark i) refl) in
       let then = level_gets tokens t ihy (end_passes tokens (follows true) ends refl refl) (n - 1) (out ++ posts x) (omega arith) in
-      read_more tokens n (OperandOr types b) from out more ∙ simp (name.is, literal, open_paren.is, func, type_closed s, start.there, reads, i.there, and_false, then, passed tokens ((out ++ posts x) ++ posts y) paren m c, over_two nodes.Conversion from (to + 1) out x y)
+      read_more tokens n (OperandOr types b) from out more ∙ simp (name.is, literal, open_paren.is, func, type_closed s, start.there, reads, i.there, and-false, then, passed tokens ((out ++ posts x) ++ posts y) paren m c, over_two nodes.Conversion from (to + 1) out x y)
 
   pub exact_conversion : (b : Bool) {x y : Forest} {from mid mid2 to : ℕ} → Passes tokens begins_conversion from → Spells tokens AnyType x from mid → HasMark tokens mid marks.OpenParen → Spells tokens (Level 1 true) y (mid + 1) mid2 → MaybeComma tokens mid2 to → HasMark tokens to marks.CloseParen → OfType tokens x from mid → OfLevel tokens 1 true y (mid + 1) mid2 → WholeOperand tokens b (one nodes.Conversion from (to + 1) (beside x y)) from (to + 1)
   exact_conversion b {x} {y} {from} h s i t m c ihx ihy =

@@ -1,24 +1,19 @@
 -- At most one tree of a part that is read by itself spells the tokens between two places.
-use Rattle.std.proofs.Common.{◌≡◌, ℕ, zero, suc, ◌+◌, ◌-◌, ◌<◌, ◌≤◌, List, [], ◌++◌, length, take, Bool, true, false, Option, Some, None, refl, sym, ap, ◌∙◌, arith}
+use Rattle.std.proofs.Common.{◌≡◌, ℕ, zero, suc, ◌-◌, ◌<◌, ◌≤◌, List, [], take, Bool, false, Some, None, refl, sym, ap, ◌∙◌, arith}
 use Rattle.argot_tree.specs.declared.mark.Mark.TheVariants as marks
-use Rattle.argot_tree.specs.declared.token.TokenKind.{TokenKind}
 use Rattle.argot_tree.specs.declared.token.TokenKind.TheVariants as kinds
 use Rattle.argot_tree.specs.declared.token.Token.{Token}
-use Rattle.argot_tree.specs.declared.tree.TreeNode.{TreeNode}
 use Rattle.argot_tree.specs.Forests.{Forest, nodes_from}
-use Rattle.argot_tree.specs.TokensAt.{kind_at, level_of, level_at, Passes}
+use Rattle.argot_tree.specs.TokensAt.{kind_at, level_at, Passes}
 use Rattle.argot_tree.specs.Grammar.{Part, Spells, Decl, Signature, Params, AnyType, Level, Block}
-use Rattle.argot_tree.specs.Trees.{SpellsNodes}
 use Rattle.argot_spelling.specs.declared.post.Post.{Post}
 use Rattle.argot_spelling.specs.Posts.{posts}
 use Rattle.argot_spelling.specs.Rooms.{room, rank}
 use Rattle.argot_spelling.specs.Reading.{The, Climb, is_kind}
-use Rattle.argot_spelling.specs.ExpressionReader.{climbs}
 use Rattle.argot_spelling.specs.Reader.{read}
 use Rattle.argot_spelling.specs.Laws.{IsAlone, OnePart}
 use Rattle.argot_spelling.proofs.Steps.{read_more}
-use Rattle.argot_spelling.proofs.Exact.Tokens.{Not, stops, ends_spec}
-use Rattle.argot_spelling.proofs.Exact.Claims.{After}
+use Rattle.argot_spelling.proofs.Exact.Tokens.{stops, ends_spec}
 use Rattle.argot_spelling.proofs.Exact.Levels.{after_stop}
 use Rattle.argot_spelling.proofs.Exact.Whole.{exact}
 use Rattle.argot_spelling.proofs.Exact.Planting.{same_trees}

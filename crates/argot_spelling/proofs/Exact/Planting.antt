@@ -1,5 +1,5 @@
 -- The nodes behind their children tell the trees.
-use Rattle.std.proofs.Common.{◌≡◌, ℕ, zero, suc, ◌+◌, ◌-◌, List, [], ◌∷◌, ◌++◌, Bool, true, false, refl, sym, ap, ◌∙◌, arith, append_assoc}
+use Rattle.std.proofs.Common.{◌≡◌, ℕ, ◌+◌, ◌-◌, List, [], ◌∷◌, ◌++◌, false, refl, sym, ap, ◌∙◌, arith, append_assoc}
 use Rattle.std.specs.Prelude.{◌==◌, if◌then◌else◌}
 use Rattle.std.proofs.lemmas.List.{append-nil}
 use Rattle.std.proofs.lemmas.Bool.{ne_eqb}
@@ -72,5 +72,5 @@ turned (tree kind token last kids rest) grown = turned rest (tree kind token las
 pub same_trees : (x y : Forest) → posts x ≡ posts y → x ≡ y
 same_trees x y e =
     let grown : onto x leaf ≡ onto y leaf =
-        sym (plant_posts x [] leaf) ∙ ap (λ l. plant l leaf) (append-nil (posts x) ∙ e ∙ sym (append-nil (posts y))) ∙ plant_posts y [] leaf in
+    sym (plant_posts x [] leaf) ∙ ap (λ l. plant l leaf) (append-nil (posts x) ∙ e ∙ sym (append-nil (posts y))) ∙ plant_posts y [] leaf in
     sym (turned x leaf) ∙ ap (λ f. onto f leaf) grown ∙ turned y leaf

@@ -1,23 +1,21 @@
 -- What stands behind a name with which an expression begins.
-use Rattle.std.proofs.Common.{◌≡◌, ℕ, zero, suc, ◌+◌, ◌-◌, ◌*◌, ◌<◌, ◌≤◌, List, [], ◌∷◌, ◌++◌, length, Bool, true, false, ◌&&◌, Option, Some, None, cond, if◌then◌else◌, refl, sym, ap, ◌∙◌, subst, inl, inr, ⊎_elim, arith}
-use Rattle.std.specs.Prelude.{◌==◌, ◌⊎◌, not}
-use Rattle.std.proofs.lemmas.List.{append-nil}
-use Rattle.std.proofs.lemmas.Bool.{cases_Bool, false≢true, and_from, and_left, and_right, le-leb, lt-leb}
-use Rattle.argot_tree.specs.declared.keyword.Keyword.TheVariants as words
+use Rattle.std.proofs.Common.{◌≡◌, ℕ, ◌+◌, List, Bool, true, false, ◌&&◌, Option, Some, None, refl, sym, ap, ◌∙◌, subst, inl, inr, ⊎_elim, arith}
+use Rattle.std.specs.Prelude.{◌⊎◌, not}
+use Rattle.std.proofs.Math.Bool.{and-false}
+use Rattle.std.proofs.lemmas.Bool.{cases_Bool, false≢true}
 use Rattle.argot_tree.specs.declared.mark.Mark.TheVariants as marks
 use Rattle.argot_tree.specs.declared.node_kind.NodeKind.{NodeKind}
-use Rattle.argot_tree.specs.declared.node_kind.NodeKind.TheVariants as nodes
 use Rattle.argot_tree.specs.declared.token.TokenKind.{TokenKind}
 use Rattle.argot_tree.specs.declared.token.TokenKind.TheVariants as kinds
 use Rattle.argot_tree.specs.declared.token.Token.{Token}
-use Rattle.argot_tree.specs.Forests.{Forest, leaf, beside, one}
-use Rattle.argot_tree.specs.TokensAt.{kind_at, HasAt, HasWord, HasMark, HasUnary, Passes, Fails, level_at, unary_of, follows_parameter}
+use Rattle.argot_tree.specs.Forests.{Forest}
+use Rattle.argot_tree.specs.TokensAt.{kind_at, HasAt, HasMark, Passes, Fails, unary_of, follows_parameter}
 use Rattle.argot_tree.specs.Grammar.{Spells, Level, Unary, Primary, Operand, Exprs, AnyType, OnlyType, unary_level, binary, unary, primary, operand, literal, name_use, parens, func_literal, composite, open_composite, bare_composite, conversion, selector, index, slice_all, slice_from, slice_to, slice_between, slice_to_max, slice_between_max, assertion, call_none, call, spread_call, last_expr, one_expr, embedded_name, embedded_qualified, type_name, qualified_type, type_parens, pointer_type, formed_type, only_pointer, array_type, slice_type, map_type, chan_type, send_type, receive_type, func_type, struct_type, interface_type}
 use Rattle.argot_spelling.specs.Reading.{is_at, is_mark, is_kind, behind_names}
 use Rattle.argot_spelling.specs.StatementReader.{defines, is_range}
 use Rattle.argot_spelling.proofs.TokenTests.{has_at, has_mark}
 use Rattle.argot_spelling.proofs.Exact.Starts.{starts}
-use Rattle.argot_spelling.proofs.Exact.Tokens.{Not, other, apart, failing, goes_behind, at_mark, at_word, by_kind, by_mark, by_test}
+use Rattle.argot_spelling.proofs.Exact.Tokens.{Not, other, apart, failing, goes_behind, at_mark, at_word, by_mark, by_test}
 use Rattle.argot_spelling.proofs.Exact.NameRuns.{names_stop, names_go}
 use Rattle.argot_spelling.proofs.Exact.Levels.{is_operator, operator_at}
 
@@ -49,10 +47,6 @@ no_parameter (Some (kinds.Word word)) h = absurd (false≢true h)
 no_parameter (Some (kinds.Mark marks.Tilde)) h = absurd (false≢true h)
 no_parameter (Some (kinds.Mark marks.Comma)) h = absurd (false≢true h)
 no_parameter _ h = refl
-
-both_false : (b : Bool) → (b && false) ≡ false
-both_false true = refl
-both_false false = refl
 
 abbrev is_found : Option NodeKind → Bool
 is_found None = false
@@ -112,7 +106,7 @@ module _ (tokens : List Token) where
   second_not {test} {k} {b} {x} {from} {to} kind s h f g =
       either_way (is_at tokens from kinds.Name)
       (λ n. let not_there : Not tokens (from + 1) kind = ⊎_elim (λ e. subst (λ i. Not tokens i kind) e (apart kind h f)) (λ p. apart kind p g) ((level_second s).second (has_at from kinds.Name n)) in
-          simp (not_there.is, both_false))
+      simp (not_there.is, and-false))
       (λ n. simp n)
 
   gone_behind : (from to : ℕ) → Passes tokens goes_behind (from + 1) → HasMark tokens (behind_names tokens from) marks.Define → behind_names tokens from ≡ to
@@ -128,12 +122,12 @@ module _ (tokens : List Token) where
       let comma : HasMark tokens (from + 1) marks.Comma = subst (λ i. HasMark tokens i marks.Comma) e c in
       either_way (is_at tokens (from + 2) kinds.Name)
       (λ n. let name : HasAt tokens (from + 2) kinds.Name = has_at (from + 2) kinds.Name n in
-          let run = names_go tokens from comma name in
-          let there : HasMark tokens (behind_names tokens (from + 2)) marks.Define = subst (λ i. HasMark tokens i marks.Define) run d in
-          run ∙ ap (λ i. behind_names tokens i) (sym next) ∙ rest (subst (λ i. HasAt tokens i kinds.Name) (sym next) name) (subst (λ i. HasMark tokens (behind_names tokens i) marks.Define) (sym next) there))
-      (λ n. let run = names_stop tokens from (simp (n, both_false)) in
-          let here : HasMark tokens (from + 1) marks.Define = subst (λ i. HasMark tokens i marks.Define) run d in
-          absurd (false≢true (sym (other (kinds.Mark marks.Define) (at_mark comma) refl).is ∙ ap (λ o. is_kind o (kinds.Mark marks.Define)) here.there)))
+      let run = names_go tokens from comma name in
+      let there : HasMark tokens (behind_names tokens (from + 2)) marks.Define = subst (λ i. HasMark tokens i marks.Define) run d in
+      run ∙ ap (λ i. behind_names tokens i) (sym next) ∙ rest (subst (λ i. HasAt tokens i kinds.Name) (sym next) name) (subst (λ i. HasMark tokens (behind_names tokens i) marks.Define) (sym next) there))
+      (λ n. let run = names_stop tokens from (simp (n, and-false)) in
+      let here : HasMark tokens (from + 1) marks.Define = subst (λ i. HasMark tokens i marks.Define) run d in
+      absurd (false≢true (sym (other (kinds.Mark marks.Define) (at_mark comma) refl).is ∙ ap (λ o. is_kind o (kinds.Mark marks.Define)) here.there)))
 
   -- names and `:=` stand at the front of an expression list only where it is those names
   pub names_alone : {b : Bool} {x : Forest} {from to : ℕ} → Spells tokens (Exprs b) x from to → Not tokens to (kinds.Mark marks.Comma) → HasAt tokens from kinds.Name → HasMark tokens (behind_names tokens from) marks.Define → behind_names tokens from ≡ to
@@ -150,9 +144,9 @@ module _ (tokens : List Token) where
   defines_not {b} {x} {from} {to} s stop h =
       either_way (is_at tokens from kinds.Name)
       (λ n. either_way (is_mark tokens (behind_names tokens from) marks.Define)
-          (λ d. let place = names_alone s stop (has_at from kinds.Name n) (has_mark (behind_names tokens from) marks.Define d) in
-              ap (λ i. is_at tokens from kinds.Name && (is_mark tokens i marks.Define && not (is_range (kind_at tokens (i + 1))))) place ∙ ap (λ v. is_at tokens from kinds.Name && v) h ∙ both_false (is_at tokens from kinds.Name))
-          (λ d. simp (d, both_false)))
+      (λ d. let place = names_alone s stop (has_at from kinds.Name n) (has_mark (behind_names tokens from) marks.Define d) in
+      ap (λ i. is_at tokens from kinds.Name && (is_mark tokens i marks.Define && not (is_range (kind_at tokens (i + 1))))) place ∙ ap (λ v. is_at tokens from kinds.Name && v) h ∙ and-false (is_at tokens from kinds.Name))
+      (λ d. simp (d, and-false)))
       (λ n. simp n)
 
   only_ungeneric : {x : Forest} {at to : ℕ} → Spells tokens OnlyType x at to → (is_mark tokens at marks.OpenBracket && (is_at tokens (at + 1) kinds.Name && follows_parameter (kind_at tokens (at + 2)))) ≡ false
@@ -160,9 +154,9 @@ module _ (tokens : List Token) where
   only_ungeneric {x} {at} {to} (array_type {mid = mid} h s c t) =
       either_way (is_at tokens (at + 1) kinds.Name)
       (λ n. let f : Fails tokens follows_parameter (at + 1 + 1) = ⊎_elim (λ e. subst (λ i. Fails tokens follows_parameter i) e (record { there = ap follows_parameter c.there })) (λ p. failing follows_parameter no_parameter p) ((level_second s).second (has_at (at + 1) kinds.Name n)) in
-          let next : at + 2 ≡ at + 1 + 1 = omega arith in
-          ap (λ i. is_mark tokens at marks.OpenBracket && (is_at tokens (at + 1) kinds.Name && follows_parameter (kind_at tokens i))) next ∙ simp (f.there, both_false))
-      (λ n. simp (n, both_false))
+      let next : at + 2 ≡ at + 1 + 1 = omega arith in
+      ap (λ i. is_mark tokens at marks.OpenBracket && (is_at tokens (at + 1) kinds.Name && follows_parameter (kind_at tokens i))) next ∙ simp (f.there, and-false))
+      (λ n. simp (n, and-false))
   only_ungeneric (slice_type h i s) = simp (h.there, i.there)
   only_ungeneric (map_type h i s j t) = simp h.there
   only_ungeneric (chan_type h i s) = simp h.there

@@ -1,33 +1,24 @@
 -- Signatures, parameters and names that are spelled are read.
-use Rattle.std.proofs.Common.{◌≡◌, ℕ, ◌+◌, ◌-◌, ◌*◌, ◌<◌, ◌≤◌, List, [], ◌∷◌, ◌++◌, length, Bool, true, false, ◌&&◌, Option, Some, None, refl, sym, ap, ◌∙◌, subst, inl, inr, ⊎_elim, arith}
-use Rattle.std.specs.Prelude.{◌==◌, ◌⊎◌}
-use Rattle.std.proofs.lemmas.Bool.{cases_Bool, false≢true}
-use Rattle.argot_tree.specs.declared.keyword.Keyword.TheVariants as words
+use Rattle.std.proofs.Common.{ℕ, ◌+◌, ◌-◌, ◌<◌, List, ◌++◌, Bool, true, false, refl, ◌∙◌, arith}
+use Rattle.std.proofs.Math.Bool.{and-false}
 use Rattle.argot_tree.specs.declared.mark.Mark.TheVariants as marks
 use Rattle.argot_tree.specs.declared.node_kind.NodeKind.TheVariants as nodes
 use Rattle.argot_tree.specs.declared.token.TokenKind.TheVariants as kinds
 use Rattle.argot_tree.specs.declared.token.Token.{Token}
 use Rattle.argot_tree.specs.Forests.{Forest, leaf, beside, one}
-use Rattle.argot_tree.specs.TokensAt.{kind_at, HasAt, HasMark, Passes, Fails, MaybeComma, is_open_paren, begins_type}
+use Rattle.argot_tree.specs.TokensAt.{HasAt, HasMark, Fails, MaybeComma, is_open_paren, begins_type}
 use Rattle.argot_tree.specs.Grammar.{Spells, AnyType, Names, Signature, Params, Types, NamedList, no_params, params, named_params}
-use Rattle.argot_spelling.specs.declared.post.Post.{Post}
 use Rattle.argot_spelling.specs.Posts.{posts}
-use Rattle.argot_spelling.specs.Rooms.{room}
-use Rattle.argot_spelling.specs.Reading.{The, closed, is_at, is_mark, is_word, is_kind, past_list}
-use Rattle.argot_spelling.specs.Reader.{read}
+use Rattle.argot_spelling.specs.Reading.{The}
 use Rattle.argot_spelling.proofs.Steps.{read_more}
 use Rattle.argot_spelling.proofs.PostLaws.{put_posts}
 use Rattle.argot_spelling.proofs.Exact.Nodes.{over, over_two, two, declared, names_it}
 use Rattle.argot_spelling.proofs.Exact.Ahead.{ahead, comma_ahead}
 use Rattle.argot_spelling.proofs.Exact.Starts.{starts}
-use Rattle.argot_spelling.proofs.Exact.Tokens.{Not, other, apart, lacking, at_mark, by_kind, by_mark, within_at, within_mark, EndsList, list_end}
+use Rattle.argot_spelling.proofs.Exact.Tokens.{other, apart, lacking, at_mark, within_at, within_mark, list_end}
 use Rattle.argot_spelling.proofs.Exact.Lists.{end_not, list_stays, list_goes, passed, paren}
 use Rattle.argot_spelling.proofs.Exact.NameRuns.{types_unnamed, list_named}
-use Rattle.argot_spelling.proofs.Exact.Claims.{Gets, OfType, Exact}
-
-and_false : (b : Bool) → (b && false) ≡ false
-and_false true = refl
-and_false false = refl
+use Rattle.argot_spelling.proofs.Exact.Claims.{OfType, Exact}
 
 module _ (tokens : List Token) where
   pub params_end : {b : Bool} {x : Forest} {from to : ℕ} → Spells tokens (Params b) x from to → from < to
@@ -77,7 +68,7 @@ module _ (tokens : List Token) where
       let more : 0 < n = omega arith in
       let dots = apart (kinds.Mark marks.Ellipsis) (starts tokens s) refl in
       let reads = ih.gets (n - 1) out (omega arith) (end_not tokens (kinds.Mark marks.Dot) ends refl refl) in
-      read_more tokens n (The (Types b)) from out more ∙ simp (dots.is, and_false, reads, over nodes.Param from to out x, list_stays tokens paren ends)
+      read_more tokens n (The (Types b)) from out more ∙ simp (dots.is, and-false, reads, over nodes.Param from to out x, list_stays tokens paren ends)
 
   pub exact_one_param : {b : Bool} {x y : Forest} {from mid to : ℕ} → Spells tokens AnyType x from mid → HasMark tokens mid marks.Comma → Spells tokens (Types b) y (mid + 1) to → OfType tokens x from mid → Exact tokens (Types b) y (mid + 1) to → Exact tokens (Types b) (beside (one nodes.Param from mid x) y) from to
   exact_one_param {b} {x} {y} {from} {mid} {to} s c t ihx ihy = λ n out enough ends.
@@ -88,7 +79,7 @@ module _ (tokens : List Token) where
       let closer = apart (kinds.Mark marks.CloseParen) (starts tokens t) refl in
       let reads = ihx.gets (n - 1) out (omega arith) (other (kinds.Mark marks.Dot) (at_mark c) refl) in
       let then = ihy (n - 1) (out ++ posts (one nodes.Param from mid x)) (omega arith) ends in
-      read_more tokens n (The (Types b)) from out more ∙ simp (dots.is, and_false, reads, over nodes.Param from mid out x, list_goes tokens marks.CloseParen c closer.is, then, two out (one nodes.Param from mid x) y)
+      read_more tokens n (The (Types b)) from out more ∙ simp (dots.is, and-false, reads, over nodes.Param from mid out x, list_goes tokens marks.CloseParen c closer.is, then, two out (one nodes.Param from mid x) y)
 
   pub exact_variadic_param : {x : Forest} {from to : ℕ} → HasMark tokens from marks.Ellipsis → Spells tokens AnyType x (from + 1) to → OfType tokens x (from + 1) to → Exact tokens (Types true) (one nodes.VariadicParam from to x) from to
   exact_variadic_param {x} {from} {to} h s ih = λ n out enough ends.
@@ -104,7 +95,7 @@ module _ (tokens : List Token) where
       let comma = apart (kinds.Mark marks.Comma) (starts tokens s) refl in
       let dots = apart (kinds.Mark marks.Ellipsis) (starts tokens s) refl in
       let reads = ih.gets (n - 1) (out ++ posts (declared from)) (omega arith) (end_not tokens (kinds.Mark marks.Dot) ends refl refl) in
-      read_more tokens n (The (NamedList b)) from out more ∙ simp (h.there, names_it from out, comma.is, dots.is, and_false, reads, over_two nodes.NamedParam from to out (declared from) x, list_stays tokens paren ends)
+      read_more tokens n (The (NamedList b)) from out more ∙ simp (h.there, names_it from out, comma.is, dots.is, and-false, reads, over_two nodes.NamedParam from to out (declared from) x, list_stays tokens paren ends)
 
   pub exact_one_named : {b : Bool} {x y : Forest} {from mid to : ℕ} → HasAt tokens from kinds.Name → Spells tokens AnyType x (from + 1) mid → HasMark tokens mid marks.Comma → Spells tokens (NamedList b) y (mid + 1) to → OfType tokens x (from + 1) mid → Exact tokens (NamedList b) y (mid + 1) to → Exact tokens (NamedList b) (beside (one nodes.NamedParam from mid (beside (one nodes.DeclName from (from + 1) leaf) x)) y) from to
   exact_one_named {b} {x} {y} {from} {mid} {to} h s c t ihx ihy = λ n out enough ends.
@@ -118,7 +109,7 @@ module _ (tokens : List Token) where
       let reads = ihx.gets (n - 1) (out ++ posts (declared from)) (omega arith) (other (kinds.Mark marks.Dot) (at_mark c) refl) in
       let entry = one nodes.NamedParam from mid (beside (declared from) x) in
       let then = ihy (n - 1) (out ++ posts entry) (omega arith) ends in
-      read_more tokens n (The (NamedList b)) from out more ∙ simp (h.there, names_it from out, comma.is, dots.is, and_false, reads, over_two nodes.NamedParam from mid out (declared from) x, list_goes tokens marks.CloseParen c closer.is, then, two out entry y)
+      read_more tokens n (The (NamedList b)) from out more ∙ simp (h.there, names_it from out, comma.is, dots.is, and-false, reads, over_two nodes.NamedParam from mid out (declared from) x, list_goes tokens marks.CloseParen c closer.is, then, two out entry y)
 
   pub exact_lone_named : {b : Bool} {x : Forest} {from to : ℕ} → HasAt tokens from kinds.Name → HasMark tokens (from + 1) marks.Comma → Spells tokens (NamedList b) x (from + 2) to → Exact tokens (NamedList b) x (from + 2) to → Exact tokens (NamedList b) (beside (one nodes.LoneParam from (from + 1) (one nodes.DeclName from (from + 1) leaf)) x) from to
   exact_lone_named {b} {x} {from} {to} h c s ih = λ n out enough ends.

@@ -1,36 +1,34 @@
 -- Simple statements that are spelled are read, and as the first statement of a head.
-use Rattle.std.proofs.Common.{◌≡◌, ℕ, zero, suc, ◌+◌, ◌-◌, ◌*◌, ◌<◌, ◌≤◌, List, [], ◌∷◌, ◌++◌, length, Bool, true, false, ◌&&◌, Option, Some, None, refl, sym, ap, ◌∙◌, subst, inl, inr, ⊎_elim, arith, length-append}
+use Rattle.std.proofs.Common.{◌≡◌, ℕ, ◌+◌, ◌-◌, ◌<◌, ◌≤◌, List, ◌++◌, length, Bool, true, false, ◌&&◌, Option, Some, refl, sym, ap, ◌∙◌, subst, ⊎_elim, arith, length-append}
 use Rattle.std.specs.Prelude.{◌==◌, ◌⊎◌}
-use Rattle.std.proofs.lemmas.List.{append-nil}
-use Rattle.std.proofs.lemmas.Bool.{cases_Bool, false≢true, and_from, and_left, and_right, le-leb, lt-leb}
+use Rattle.std.proofs.Math.Bool.{and-false}
+use Rattle.std.proofs.lemmas.Bool.{false≢true}
 use Rattle.argot_tree.specs.declared.keyword.Keyword.TheVariants as words
 use Rattle.argot_tree.specs.declared.mark.Mark.TheVariants as marks
-use Rattle.argot_tree.specs.declared.node_kind.NodeKind.{NodeKind}
 use Rattle.argot_tree.specs.declared.node_kind.NodeKind.TheVariants as nodes
 use Rattle.argot_tree.specs.declared.token.TokenKind.{TokenKind}
 use Rattle.argot_tree.specs.declared.token.TokenKind.TheVariants as kinds
 use Rattle.argot_tree.specs.declared.token.Token.{Token}
 use Rattle.argot_tree.specs.Forests.{Forest, leaf, beside, one}
 use Rattle.std.specs.Prelude.{not}
-use Rattle.argot_tree.specs.TokensAt.{kind_at, HasAt, HasMark, Passes, Fails, is_semicolon, is_op_assign}
+use Rattle.argot_tree.specs.TokensAt.{kind_at, HasAt, HasMark, Passes, is_semicolon, is_op_assign}
 use Rattle.argot_tree.specs.Grammar.{Spells, Level, Exprs, Names, Simple, last_expr, expr_stmt, send, increment, decrement, assign, op_assign, define, one_expr, last_name, one_name}
 use Rattle.argot_spelling.specs.declared.post.Post.{Post}
 use Rattle.argot_spelling.specs.Posts.{posts}
 use Rattle.argot_spelling.specs.Rooms.{room}
-use Rattle.argot_spelling.specs.Reading.{The, closed, is_at, is_mark, is_kind, kind_number, behind_names}
-use Rattle.argot_spelling.specs.StatementReader.{defines, guards, is_range, ends_stmt, begins_assign, labels, opening_by, simple_by}
+use Rattle.argot_spelling.specs.Reading.{The, is_at, is_mark, is_kind, kind_number}
+use Rattle.argot_spelling.specs.StatementReader.{defines, guards, is_range, ends_stmt, begins_assign, labels, opening_by}
 use Rattle.argot_spelling.specs.Reader.{read}
 use Rattle.argot_spelling.proofs.Steps.{read_more}
-use Rattle.argot_spelling.proofs.TokenTests.{has_at}
 use Rattle.argot_spelling.proofs.PostLaws.{closed_posts}
 use Rattle.argot_spelling.proofs.Exact.Nodes.{over, over_two}
 use Rattle.argot_spelling.proofs.Exact.Ahead.{ahead}
 use Rattle.argot_spelling.proofs.Exact.Starts.{starts}
-use Rattle.argot_spelling.proofs.Exact.Tokens.{Not, other, apart, failing, stops, follows, ends_simple, begins_expr, goes_behind, at_mark, by_kind, by_mark, by_test, within_at, within_mark, within_pass}
+use Rattle.argot_spelling.proofs.Exact.Tokens.{Not, other, apart, failing, stops, follows, ends_simple, begins_expr, goes_behind, at_mark, by_mark, by_test, within_mark, within_pass}
 use Rattle.argot_spelling.proofs.Exact.NameRuns.{names_end}
 use Rattle.argot_spelling.proofs.Exact.Levels.{level_gets, level_after, after, after_stop}
 use Rattle.argot_spelling.proofs.Exact.Elements.{exprs_whole}
-use Rattle.argot_spelling.proofs.Exact.Seconds.{defines_not, second_not, level_second, either_way}
+use Rattle.argot_spelling.proofs.Exact.Seconds.{defines_not, second_not}
 use Rattle.argot_spelling.proofs.Exact.Claims.{Gets, After, Defines, OfLevel, OfExprs, OfSimple, Exact}
 
 pub stmt_stops : (o : Option TokenKind) → ends_stmt o ≡ true → stops o ≡ true
@@ -96,10 +94,6 @@ is_step _ = false
 abbrev is_comma : Option TokenKind → Bool
 is_comma (Some (kinds.Mark marks.Comma)) = true
 is_comma _ = false
-
-both_false : (b : Bool) → (b && false) ≡ false
-both_false true = refl
-both_false false = refl
 
 module _ (tokens : List Token) where
   -- no definition stands where `:=` isn't behind the expressions
@@ -362,7 +356,7 @@ module _ (tokens : List Token) where
   define_one {x} {y} {from} {mid} {to} (last_name i) h t ihy =
       let next : from + 2 ≡ from + 1 + 1 = omega arith in
       let whole : OfExprs tokens false y (from + 1 + 1) to → DefinesOne (one nodes.Define from to (beside (one nodes.Names from (from + 1) (one nodes.DeclName from (from + 1) leaf)) (one nodes.Exprs (from + 1 + 1) to y))) from to =
-          subst (λ m. OfExprs tokens false y m to → DefinesOne (one nodes.Define from to (beside (one nodes.Names from (from + 1) (one nodes.DeclName from (from + 1) leaf)) (one nodes.Exprs m to y))) from to) next (define_last from to y h) in
+      subst (λ m. OfExprs tokens false y m to → DefinesOne (one nodes.Define from to (beside (one nodes.Names from (from + 1) (one nodes.DeclName from (from + 1) leaf)) (one nodes.Exprs m to y))) from to) next (define_last from to y h) in
       whole ihy
   define_one {x} {y} {from} {mid} {to} (one_name i d s) h t ihy = λ n out name mark enough c. absurd (false≢true (sym (other (kinds.Mark marks.Define) (at_mark d) refl).is ∙ ap (λ o. is_kind o (kinds.Mark marks.Define)) mark.there))
 
@@ -371,8 +365,8 @@ module _ (tokens : List Token) where
   exact_define {b = false} s h t ihx ihy = simply (read_define s h t ihx ihy) (λ e. open_define s h t ihx ihy) (λ e. define_one s h t ihy)
 
   names_unlabelled : {x : Forest} {from to : ℕ} → Spells tokens Names x from to → HasMark tokens to marks.Define → labels tokens from ≡ false
-  names_unlabelled (last_name h) d = simp (d.there, both_false)
-  names_unlabelled (one_name h c s) d = simp (c.there, both_false)
+  names_unlabelled (last_name h) d = simp (d.there, and-false)
+  names_unlabelled (one_name h c s) d = simp (c.there, and-false)
 
   -- no label stands before a simple statement
   pub simple_unlabelled : {b : Bool} {x : Forest} {from to : ℕ} → Spells tokens (Simple b) x from to → Passes tokens (ends_simple b) to → labels tokens from ≡ false

@@ -1,22 +1,21 @@
 -- Statements and blocks that are spelled are read.
-use Rattle.std.proofs.Common.{◌≡◌, ℕ, zero, suc, ◌+◌, ◌-◌, ◌*◌, ◌<◌, ◌≤◌, List, [], ◌∷◌, ◌++◌, length, Bool, true, false, ◌&&◌, Option, Some, None, refl, sym, ap, ◌∙◌, subst, inl, inr, ⊎_elim, arith}
-use Rattle.std.specs.Prelude.{◌==◌, ◌⊎◌, nat_le}
+use Rattle.std.proofs.Common.{◌≡◌, ℕ, ◌+◌, ◌-◌, ◌<◌, ◌≤◌, List, [], ◌∷◌, ◌++◌, length, true, false, Option, Some, refl, ◌∙◌, arith}
+use Rattle.std.specs.Prelude.{◌==◌}
 use Rattle.std.proofs.lemmas.List.{append-nil}
-use Rattle.std.proofs.lemmas.Bool.{cases_Bool, false≢true, and_from, and_left, and_right, le-leb, lt-leb}
+use Rattle.std.proofs.lemmas.Bool.{false≢true}
 use Rattle.argot_tree.specs.declared.keyword.Keyword.TheVariants as words
 use Rattle.argot_tree.specs.declared.mark.Mark.TheVariants as marks
-use Rattle.argot_tree.specs.declared.node_kind.NodeKind.{NodeKind}
 use Rattle.argot_tree.specs.declared.node_kind.NodeKind.TheVariants as nodes
 use Rattle.argot_tree.specs.declared.token.TokenKind.{TokenKind}
 use Rattle.argot_tree.specs.declared.token.TokenKind.TheVariants as kinds
 use Rattle.argot_tree.specs.declared.token.Token.{Token}
 use Rattle.argot_tree.specs.Forests.{Forest, leaf, beside, one}
-use Rattle.argot_tree.specs.TokensAt.{kind_at, HasAt, HasWord, HasMark, Passes, Fails, is_semicolon}
+use Rattle.argot_tree.specs.TokensAt.{kind_at, HasAt, HasWord, HasMark, Passes, is_semicolon}
 use Rattle.argot_tree.specs.Grammar.{Spells, Level, Exprs, Decl, Block, Stmts, Stmt, Simple, MaybeLabel, If}
 use Rattle.argot_spelling.specs.declared.post.Post.{Post}
 use Rattle.argot_spelling.specs.Posts.{posts}
 use Rattle.argot_spelling.specs.Rooms.{room}
-use Rattle.argot_spelling.specs.Reading.{The, Ifs, Labels, Reader, Answer, ◌>>=◌, closed, closed_all, closing, kind_number, is_at, is_mark}
+use Rattle.argot_spelling.specs.Reading.{The, Labels, Reader, ◌>>=◌, closed_all, closing, kind_number}
 use Rattle.argot_spelling.specs.StatementReader.{ends_stmt, ends_stmts, labels, stmt_by}
 use Rattle.argot_spelling.specs.Reader.{read}
 use Rattle.argot_spelling.proofs.Steps.{read_more}
@@ -24,7 +23,7 @@ use Rattle.argot_spelling.proofs.PostLaws.{put_posts}
 use Rattle.argot_spelling.proofs.Exact.Nodes.{over, over_two, two, declared, names_it}
 use Rattle.argot_spelling.proofs.Exact.Ahead.{ahead}
 use Rattle.argot_spelling.proofs.Exact.Starts.{starts}
-use Rattle.argot_spelling.proofs.Exact.Tokens.{Not, other, apart, failing, stops, follows, ends_simple, ends_spec, begins_expr, begins_decl, begins_stmt, at_mark, at_word, by_kind, by_mark, by_test, within_at, within_mark, within_word, within_pass}
+use Rattle.argot_spelling.proofs.Exact.Tokens.{other, apart, failing, stops, ends_simple, ends_spec, begins_expr, begins_decl, begins_stmt, at_mark, at_word, by_mark, by_test, within_at, within_mark, within_word, within_pass}
 use Rattle.argot_spelling.proofs.Exact.Members.{semicolon_ends}
 use Rattle.argot_spelling.proofs.Exact.Declarations.{stmt_spec}
 use Rattle.argot_spelling.proofs.Exact.Simples.{stmt_stops, simple_unlabelled}
@@ -152,20 +151,20 @@ module _ (tokens : List Token) where
   pub exact_decl_stmt : {x : Forest} {from to : ℕ} → Spells tokens Decl x from to → Spells tokens Stmt (one nodes.DeclStmt from to x) from to → Exact tokens Decl x from to → OfStmt tokens (one nodes.DeclStmt from to x) from to
   exact_decl_stmt {x} {from} {to} s whole ih = unlabelled whole (let name = apart kinds.Name (starts tokens s) refl in simp name.is)
       (λ n out enough ends.
-          let more : 0 < n = omega arith in
-          let start = starts tokens s in
-          let reads = ih (n - 1) out (omega arith) (by_test ends_spec stmt_spec ends) in
-          read_more tokens n (The Stmt) from out more ∙ decl_dispatch (read tokens (n - 1)) (kind_at tokens from) from out start.there ∙ simp (reads, over nodes.DeclStmt from to out x))
+      let more : 0 < n = omega arith in
+      let start = starts tokens s in
+      let reads = ih (n - 1) out (omega arith) (by_test ends_spec stmt_spec ends) in
+      read_more tokens n (The Stmt) from out more ∙ decl_dispatch (read tokens (n - 1)) (kind_at tokens from) from out start.there ∙ simp (reads, over nodes.DeclStmt from to out x))
 
   -- whatever follows it, a simple statement is read as a statement before which no label stands
   pub exact_simple_stmt : {x : Forest} {from to : ℕ} → Spells tokens (Simple true) x from to → Spells tokens Stmt x from to → OfSimple tokens true x from to → OfStmt tokens x from to
   exact_simple_stmt {x} {from} {to} s whole ih =
       let gets : ReadStmt x from to = λ n out enough ends.
-          (let more : 0 < n = omega arith in
-          let start = starts tokens s in
-          let end = by_test (ends_simple true) stmt_simple ends in
-          let reads = ih.gets (n - 1) out (omega arith) end in
-          read_more tokens n (The Stmt) from out more ∙ simple_dispatch (read tokens (n - 1)) (kind_at tokens from) from out start.there (simple_unlabelled tokens s end) ∙ reads) in
+      (let more : 0 < n = omega arith in
+      let start = starts tokens s in
+      let end = by_test (ends_simple true) stmt_simple ends in
+      let reads = ih.gets (n - 1) out (omega arith) end in
+      read_more tokens n (The Stmt) from out more ∙ simple_dispatch (read tokens (n - 1)) (kind_at tokens from) from out start.there (simple_unlabelled tokens s end) ∙ reads) in
       record {
         gets = gets;
         labelled = λ begun n out enough ends. (unlabelled whole (simple_unlabelled tokens s (by_test (ends_simple true) stmt_simple ends)) gets).labelled begun n out enough ends;
@@ -210,33 +209,33 @@ module _ (tokens : List Token) where
   pub exact_go_stmt : {x : Forest} {from to : ℕ} → HasWord tokens from words.Go → Spells tokens (Level 1 true) x (from + 1) to → Spells tokens Stmt (one nodes.Go from to x) from to → OfLevel tokens 1 true x (from + 1) to → OfStmt tokens (one nodes.Go from to x) from to
   exact_go_stmt {x} {from} {to} h s whole ih = begun_by (at_word h) refl whole
       (λ n out enough ends.
-          let within = within_word h in
-          let more : 0 < n = omega arith in
-          let reads = level_after tokens s ih (after_stop tokens true (by_test stops stmt_stops ends)) (n - 1) out (omega arith) in
-          read_more tokens n (The Stmt) from out more ∙ simp (h.there, reads, over nodes.Go from to out x))
+      let within = within_word h in
+      let more : 0 < n = omega arith in
+      let reads = level_after tokens s ih (after_stop tokens true (by_test stops stmt_stops ends)) (n - 1) out (omega arith) in
+      read_more tokens n (The Stmt) from out more ∙ simp (h.there, reads, over nodes.Go from to out x))
 
   pub exact_defer_stmt : {x : Forest} {from to : ℕ} → HasWord tokens from words.Defer → Spells tokens (Level 1 true) x (from + 1) to → Spells tokens Stmt (one nodes.Defer from to x) from to → OfLevel tokens 1 true x (from + 1) to → OfStmt tokens (one nodes.Defer from to x) from to
   exact_defer_stmt {x} {from} {to} h s whole ih = begun_by (at_word h) refl whole
       (λ n out enough ends.
-          let within = within_word h in
-          let more : 0 < n = omega arith in
-          let reads = level_after tokens s ih (after_stop tokens true (by_test stops stmt_stops ends)) (n - 1) out (omega arith) in
-          read_more tokens n (The Stmt) from out more ∙ simp (h.there, reads, over nodes.Defer from to out x))
+      let within = within_word h in
+      let more : 0 < n = omega arith in
+      let reads = level_after tokens s ih (after_stop tokens true (by_test stops stmt_stops ends)) (n - 1) out (omega arith) in
+      read_more tokens n (The Stmt) from out more ∙ simp (h.there, reads, over nodes.Defer from to out x))
 
   pub exact_return_none : {from : ℕ} → HasWord tokens from words.Return → Spells tokens Stmt (one nodes.Return from (from + 1) leaf) from (from + 1) → OfStmt tokens (one nodes.Return from (from + 1) leaf) from (from + 1)
   exact_return_none {from} h whole = begun_by (at_word h) refl whole
       (λ n out enough ends.
-          let more : 0 < n = omega arith in
-          read_more tokens n (The Stmt) from out more ∙ simp (h.there, ends.there, put_posts nodes.Return from (from + 1) out))
+      let more : 0 < n = omega arith in
+      read_more tokens n (The Stmt) from out more ∙ simp (h.there, ends.there, put_posts nodes.Return from (from + 1) out))
 
   pub exact_return_values : {x : Forest} {from to : ℕ} → HasWord tokens from words.Return → Spells tokens (Exprs true) x (from + 1) to → Spells tokens Stmt (one nodes.Return from to x) from to → OfExprs tokens true x (from + 1) to → OfStmt tokens (one nodes.Return from to x) from to
   exact_return_values {x} {from} {to} h s whole ih = begun_by (at_word h) refl whole
       (λ n out enough ends.
-          let within = within_word h in
-          let more : 0 < n = omega arith in
-          let no_end = failing ends_stmt expr_no_end (starts tokens s) in
-          let reads = exprs_whole tokens ih (after_stop tokens true (by_test stops stmt_stops ends)) (apart (kinds.Mark marks.Comma) ends refl) (n - 1) out (omega arith) in
-          read_more tokens n (The Stmt) from out more ∙ simp (h.there, no_end.there, reads, over nodes.Return from to out x))
+      let within = within_word h in
+      let more : 0 < n = omega arith in
+      let no_end = failing ends_stmt expr_no_end (starts tokens s) in
+      let reads = exprs_whole tokens ih (after_stop tokens true (by_test stops stmt_stops ends)) (apart (kinds.Mark marks.Comma) ends refl) (n - 1) out (omega arith) in
+      read_more tokens n (The Stmt) from out more ∙ simp (h.there, no_end.there, reads, over nodes.Return from to out x))
 
   pub exact_no_label : {from : ℕ} → Exact tokens MaybeLabel leaf from from
   exact_no_label {from} = λ n out enough ends.
@@ -252,44 +251,44 @@ module _ (tokens : List Token) where
   pub exact_break_stmt : {x : Forest} {from to : ℕ} → HasWord tokens from words.Break → Spells tokens MaybeLabel x (from + 1) to → Spells tokens Stmt (one nodes.Break from to x) from to → Exact tokens MaybeLabel x (from + 1) to → OfStmt tokens (one nodes.Break from to x) from to
   exact_break_stmt {x} {from} {to} h s whole ih = begun_by (at_word h) refl whole
       (λ n out enough ends.
-          let within = within_word h in
-          let more : 0 < n = omega arith in
-          let reads = ih (n - 1) out (omega arith) ends in
-          read_more tokens n (The Stmt) from out more ∙ simp (h.there, reads, over nodes.Break from to out x))
+      let within = within_word h in
+      let more : 0 < n = omega arith in
+      let reads = ih (n - 1) out (omega arith) ends in
+      read_more tokens n (The Stmt) from out more ∙ simp (h.there, reads, over nodes.Break from to out x))
 
   pub exact_continue_stmt : {x : Forest} {from to : ℕ} → HasWord tokens from words.Continue → Spells tokens MaybeLabel x (from + 1) to → Spells tokens Stmt (one nodes.Continue from to x) from to → Exact tokens MaybeLabel x (from + 1) to → OfStmt tokens (one nodes.Continue from to x) from to
   exact_continue_stmt {x} {from} {to} h s whole ih = begun_by (at_word h) refl whole
       (λ n out enough ends.
-          let within = within_word h in
-          let more : 0 < n = omega arith in
-          let reads = ih (n - 1) out (omega arith) ends in
-          read_more tokens n (The Stmt) from out more ∙ simp (h.there, reads, over nodes.Continue from to out x))
+      let within = within_word h in
+      let more : 0 < n = omega arith in
+      let reads = ih (n - 1) out (omega arith) ends in
+      read_more tokens n (The Stmt) from out more ∙ simp (h.there, reads, over nodes.Continue from to out x))
 
   pub exact_goto_stmt : {from : ℕ} → HasWord tokens from words.Goto → HasAt tokens (from + 1) kinds.Name → Spells tokens Stmt (one nodes.Goto from (from + 2) (one nodes.LabelUse (from + 1) (from + 2) leaf)) from (from + 2) → OfStmt tokens (one nodes.Goto from (from + 2) (one nodes.LabelUse (from + 1) (from + 2) leaf)) from (from + 2)
   exact_goto_stmt {from} h i whole = begun_by (at_word h) refl whole
       (λ n out enough ends.
-          let more : 0 < n = omega arith in
-          let label = one nodes.LabelUse (from + 1) (from + 2) leaf in
-          read_more tokens n (The Stmt) from out more ∙ simp (h.there, i.there, put_posts nodes.LabelUse (from + 1) (from + 2) out, over nodes.Goto from (from + 2) out label))
+      let more : 0 < n = omega arith in
+      let label = one nodes.LabelUse (from + 1) (from + 2) leaf in
+      read_more tokens n (The Stmt) from out more ∙ simp (h.there, i.there, put_posts nodes.LabelUse (from + 1) (from + 2) out, over nodes.Goto from (from + 2) out label))
 
   pub exact_fallthrough_stmt : {from : ℕ} → HasWord tokens from words.Fallthrough → Spells tokens Stmt (one nodes.Fallthrough from (from + 1) leaf) from (from + 1) → OfStmt tokens (one nodes.Fallthrough from (from + 1) leaf) from (from + 1)
   exact_fallthrough_stmt {from} h whole = begun_by (at_word h) refl whole
       (λ n out enough ends.
-          let more : 0 < n = omega arith in
-          read_more tokens n (The Stmt) from out more ∙ simp (h.there, put_posts nodes.Fallthrough from (from + 1) out))
+      let more : 0 < n = omega arith in
+      read_more tokens n (The Stmt) from out more ∙ simp (h.there, put_posts nodes.Fallthrough from (from + 1) out))
 
   pub exact_block_stmt : {x : Forest} {from to : ℕ} → Spells tokens Block x from to → Spells tokens Stmt x from to → Exact tokens Block x from to → OfStmt tokens x from to
   exact_block_stmt {x} {from} {to} s whole ih = begun_by (at_mark (starts tokens s)) refl whole
       (λ n out enough ends.
-          let more : 0 < n = omega arith in
-          let open_brace = starts tokens s in
-          let reads = ih (n - 1) out (omega arith) in
-          read_more tokens n (The Stmt) from out more ∙ simp (open_brace.there, reads))
+      let more : 0 < n = omega arith in
+      let open_brace = starts tokens s in
+      let reads = ih (n - 1) out (omega arith) in
+      read_more tokens n (The Stmt) from out more ∙ simp (open_brace.there, reads))
 
   pub exact_if_stmt : {x : Forest} {from to : ℕ} → Spells tokens If x from to → Spells tokens Stmt x from to → Exact tokens If x from to → OfStmt tokens x from to
   exact_if_stmt {x} {from} {to} s whole ih = begun_by (at_word (starts tokens s)) refl whole
       (λ n out enough ends.
-          let more : 0 < n = omega arith in
-          let word = starts tokens s in
-          let reads = ih [] (n - 1) out (omega arith) ends in
-          read_more tokens n (The Stmt) from out more ∙ simp (word.there, reads))
+      let more : 0 < n = omega arith in
+      let word = starts tokens s in
+      let reads = ih [] (n - 1) out (omega arith) ends in
+      read_more tokens n (The Stmt) from out more ∙ simp (word.there, reads))

@@ -1,34 +1,30 @@
 -- What goes on behind an operand is read: selectors, indexes, slices, assertions and calls.
-use Rattle.std.proofs.Common.{◌≡◌, ℕ, zero, suc, ◌+◌, ◌-◌, ◌*◌, ◌<◌, ◌≤◌, List, [], ◌∷◌, ◌++◌, length, Bool, true, false, ◌&&◌, Option, Some, None, refl, sym, ap, ◌∙◌, subst, inl, inr, ⊎_elim, arith}
-use Rattle.std.specs.Prelude.{◌==◌, ◌⊎◌, nat_le}
-use Rattle.std.proofs.lemmas.List.{append-nil}
-use Rattle.std.proofs.lemmas.Bool.{cases_Bool, false≢true, and_from, and_left, and_right, le-leb, lt-leb}
-use Rattle.argot_tree.specs.declared.keyword.Keyword.TheVariants as words
+use Rattle.std.proofs.Common.{◌≡◌, ℕ, ◌+◌, ◌-◌, ◌<◌, ◌≤◌, List, ◌++◌, length, Bool, true, false, Option, Some, refl, sym, ◌∙◌, subst, arith}
+use Rattle.std.proofs.lemmas.Bool.{false≢true}
 use Rattle.argot_tree.specs.declared.mark.Mark.TheVariants as marks
-use Rattle.argot_tree.specs.declared.node_kind.NodeKind.{NodeKind}
 use Rattle.argot_tree.specs.declared.node_kind.NodeKind.TheVariants as nodes
 use Rattle.argot_tree.specs.declared.token.TokenKind.{TokenKind}
 use Rattle.argot_tree.specs.declared.token.TokenKind.TheVariants as kinds
 use Rattle.argot_tree.specs.declared.token.Token.{Token}
 use Rattle.argot_tree.specs.Forests.{Forest, leaf, beside, one}
-use Rattle.argot_tree.specs.TokensAt.{kind_at, HasAt, HasMark, Passes, MaybeComma, comma}
+use Rattle.argot_tree.specs.TokensAt.{HasAt, HasMark, MaybeComma}
 use Rattle.argot_tree.specs.Grammar.{Spells, Level, Primary, AnyType, Eithers}
 use Rattle.argot_spelling.specs.declared.post.Post.{Post}
 use Rattle.argot_spelling.specs.Posts.{posts}
 use Rattle.argot_spelling.specs.Rooms.{room}
-use Rattle.argot_spelling.specs.Reading.{The, PrimaryOr, Suffixes, closed, put, is_at, is_mark, past_list}
+use Rattle.argot_spelling.specs.Reading.{Suffixes, is_mark}
 use Rattle.argot_spelling.specs.TypeReader.{is_dotted}
 use Rattle.argot_spelling.specs.ExpressionReader.{suffix_by}
 use Rattle.argot_spelling.specs.Reader.{read}
 use Rattle.argot_spelling.proofs.Steps.{read_more}
-use Rattle.argot_spelling.proofs.PostLaws.{put_posts, closed_posts}
+use Rattle.argot_spelling.proofs.PostLaws.{put_posts}
 use Rattle.argot_spelling.proofs.Exact.Nodes.{over, over_two, over_three, over_four}
 use Rattle.argot_spelling.proofs.Exact.Ahead.{ahead, comma_ahead}
 use Rattle.argot_spelling.proofs.Exact.Starts.{starts}
-use Rattle.argot_spelling.proofs.Exact.Tokens.{Not, other, apart, stops, follows, at_mark, by_kind, by_mark, within_at, within_mark, EndsList, list_end}
+use Rattle.argot_spelling.proofs.Exact.Tokens.{other, apart, stops, follows, at_mark, by_mark, within_mark, list_end}
 use Rattle.argot_spelling.proofs.Exact.Lists.{end_passes, end_not, list_stays, passed, paren}
 use Rattle.argot_spelling.proofs.Exact.Levels.{no_brace_at, level_gets}
-use Rattle.argot_spelling.proofs.Exact.Claims.{Gets, NoBrace, OfLevel, Comes, OfPrimary, WholePrimary, OfType, Exact}
+use Rattle.argot_spelling.proofs.Exact.Claims.{NoBrace, OfLevel, Comes, OfPrimary, WholePrimary, OfType, Exact}
 
 -- the marks that begin what goes on behind an operand, and open a bracket
 abbrev opens : Option TokenKind → Bool

@@ -1,24 +1,22 @@
 -- Switches that are spelled are read: what stands before the semicolon in the head, then a value, a guard or nothing.
-use Rattle.std.proofs.Common.{◌≡◌, ℕ, zero, suc, ◌+◌, ◌-◌, ◌*◌, ◌<◌, ◌≤◌, List, [], ◌∷◌, ◌++◌, length, Bool, true, false, ◌&&◌, Option, Some, None, refl, sym, ap, ◌∙◌, subst, inl, inr, ⊎_elim, arith, length-append}
-use Rattle.std.specs.Prelude.{◌==◌, ◌⊎◌, nat_le}
+use Rattle.std.proofs.Common.{◌≡◌, ℕ, zero, suc, ◌+◌, ◌-◌, ◌<◌, ◌≤◌, List, ◌++◌, length, Bool, true, false, ◌&&◌, Option, Some, None, refl, sym, ap, ◌∙◌, arith, length-append}
 use Rattle.std.proofs.lemmas.List.{append-nil}
-use Rattle.std.proofs.lemmas.Bool.{cases_Bool, false≢true, and_parts, and_from, and_left, and_right, le-leb, lt-leb}
+use Rattle.std.proofs.lemmas.Bool.{false≢true, and_parts}
 use Rattle.argot_tree.specs.declared.keyword.Keyword.TheVariants as words
 use Rattle.argot_tree.specs.declared.mark.Mark.TheVariants as marks
-use Rattle.argot_tree.specs.declared.node_kind.NodeKind.{NodeKind}
 use Rattle.argot_tree.specs.declared.node_kind.NodeKind.TheVariants as nodes
 use Rattle.argot_tree.specs.declared.token.TokenKind.{TokenKind}
 use Rattle.argot_tree.specs.declared.token.TokenKind.TheVariants as kinds
 use Rattle.argot_tree.specs.declared.token.Token.{Token}
 use Rattle.argot_tree.specs.Forests.{Forest, leaf, beside, one}
 use Rattle.std.specs.List.{remove}
-use Rattle.argot_tree.specs.TokensAt.{kind_at, level_of, level_at, HasAt, HasWord, HasMark, Passes, Fails, is_semicolon}
+use Rattle.argot_tree.specs.TokensAt.{level_of, level_at, HasWord, HasMark, Passes, is_semicolon}
 use Rattle.argot_tree.specs.Grammar.{Spells, Level, Primary, Cases, Stmt, Simple, MaybeInit, MaybeSwitched, TypeGuard, AnyType, OnlyType, last_expr, unary_level, primary}
 use Rattle.argot_spelling.specs.declared.post.Post.{Post}
 use Rattle.argot_spelling.specs.Posts.{posts}
 use Rattle.argot_spelling.specs.Rooms.{room}
-use Rattle.argot_spelling.specs.Reading.{The, Suffixes, closed, put, is_at, is_mark, is_word}
-use Rattle.argot_spelling.specs.StatementReader.{defines, guards, is_primary, opening_by, switched_by, tag_by, head_by}
+use Rattle.argot_spelling.specs.Reading.{The, Suffixes, closed, is_at, is_mark}
+use Rattle.argot_spelling.specs.StatementReader.{switched_by, tag_by, head_by}
 use Rattle.argot_spelling.specs.Reader.{read}
 use Rattle.argot_spelling.proofs.Steps.{read_more}
 use Rattle.argot_spelling.proofs.TokenTests.{has_at, has_mark}
@@ -28,13 +26,13 @@ use Rattle.argot_spelling.proofs.Exact.Nodes.{over, over_two, over_three, declar
 use Rattle.argot_spelling.proofs.Exact.Roots.{rooted_primary, primary_operation}
 use Rattle.argot_spelling.proofs.Exact.Ahead.{ahead}
 use Rattle.argot_spelling.proofs.Exact.Starts.{starts, operand_expr}
-use Rattle.argot_spelling.proofs.Exact.Tokens.{Not, other, apart, failing, follows, begins_operand, begins_expr, at_mark, at_word, by_kind, by_mark, by_test, within_at, within_mark, within_word, within_pass}
+use Rattle.argot_spelling.proofs.Exact.Tokens.{apart, failing, follows, begins_expr, at_mark, at_word, by_mark, by_test, within_at, within_mark, within_word, within_pass}
 use Rattle.argot_spelling.proofs.Exact.Simples.{undefined_mark}
 use Rattle.argot_spelling.proofs.Exact.Seconds.{second_not, either_way}
 use Rattle.argot_spelling.proofs.Exact.Levels.{level_gets, level_whole, exact_unary_level, exact_primary}
 use Rattle.argot_spelling.proofs.Exact.Heads.{expr_no_semicolon, opens_expr}
 use Rattle.argot_spelling.proofs.Exact.Statements.{begun_by}
-use Rattle.argot_spelling.proofs.Exact.Claims.{Gets, NoBrace, Stays, OfLevel, OfPrimary, OfSimple, OfStmt, OfInit, no_statement, empty_statement, a_statement, OfMaybe, no_expression, an_expression, OfGuard, guarded, named_guarded, Exact}
+use Rattle.argot_spelling.proofs.Exact.Claims.{Gets, OfPrimary, OfSimple, OfStmt, OfInit, no_statement, empty_statement, a_statement, OfMaybe, no_expression, an_expression, OfGuard, guarded, named_guarded, Exact}
 
 -- what stands behind a value in a head, or before a guard's type
 abbrev is_brace : Option TokenKind → Bool
@@ -156,7 +154,7 @@ module _ (tokens : List Token) where
       let reads = guard_reads s ih d p w n (out ++ posts names) (omega arith) in
       let long : length out + 1 ≡ length (out ++ posts (declared start)) = omega (arith, length-append out (posts (declared start))) in
       let alone : remove ((out ++ posts names) ++ posts z) (length out + 1) ≡ (out ++ posts (declared start)) ++ posts z =
-          unnamed start out ((out ++ posts names) ++ posts z) z (ap (λ l. l ++ posts z) (sym (ap (closed nodes.Names start (start + 1) (length out)) (names_it start out) ∙ over nodes.Names start (start + 1) out (declared start)))) ∙ ap (λ l. l ++ posts z) (names_it start out) in
+      unnamed start out ((out ++ posts names) ++ posts z) z (ap (λ l. l ++ posts z) (sym (ap (closed nodes.Names start (start + 1) (length out)) (names_it start out) ∙ over nodes.Names start (start + 1) out (declared start)))) ∙ ap (λ l. l ++ posts z) (names_it start out) in
       simp (h.there, a.there, names_it start out, over nodes.Names start (start + 1) out (declared start), reads, d.there, p.there, w.there, c.there, alone, rooted_primary (out ++ posts (declared start)) (primary_operation tokens s), closed_posts nodes.Guard (start + 2) (to + 4) (length out + 1) (out ++ posts (declared start)) ((out ++ posts (declared start)) ++ posts z) z refl long, over_two nodes.NamedGuard start (to + 4) out (declared start) guard, append-nil out)
   guard_head {x} {y} {start} {mid} {mid2} (empty_statement c) t whole b from n out enough =
       let within = within_pass c refl in
@@ -174,23 +172,23 @@ module _ (tokens : List Token) where
   pub exact_switch : {x y z : Forest} {from mid mid2 to : ℕ} → HasWord tokens from words.Switch → Spells tokens MaybeInit x (from + 1) mid → Spells tokens MaybeSwitched y mid mid2 → HasMark tokens mid2 marks.OpenBrace → Spells tokens Cases z (mid2 + 1) to → HasMark tokens to marks.CloseBrace → Spells tokens Stmt (one nodes.Switch from (to + 1) (beside x (beside y z))) from (to + 1) → OfInit tokens x (from + 1) mid → OfMaybe tokens y mid mid2 → Exact tokens Cases z (mid2 + 1) to → OfStmt tokens (one nodes.Switch from (to + 1) (beside x (beside y z))) from (to + 1)
   exact_switch {x} {y} {z} {from} {mid} {mid2} {to} h s t b u c whole ihx ihy ihz = begun_by tokens (at_word h) refl whole
       (λ n out enough ends.
-          let within = within_word h in
-          let inside = within_mark b in
-          let forward = ahead tokens s in
-          let onward = ahead tokens t in
-          let more : 0 < n = omega arith in
-          let head = value_head ihx ihy s b from (n - 1) out (omega arith) in
-          let cases = ihz (n - 1) ((out ++ posts x) ++ posts y) (omega arith) c in
-          read_more tokens n (The Stmt) from out more ∙ simp h.there (head ∙ simp (b.there, cases, c.there, over_three nodes.Switch from (to + 1) out x y z)))
+      let within = within_word h in
+      let inside = within_mark b in
+      let forward = ahead tokens s in
+      let onward = ahead tokens t in
+      let more : 0 < n = omega arith in
+      let head = value_head ihx ihy s b from (n - 1) out (omega arith) in
+      let cases = ihz (n - 1) ((out ++ posts x) ++ posts y) (omega arith) c in
+      read_more tokens n (The Stmt) from out more ∙ simp h.there (head ∙ simp (b.there, cases, c.there, over_three nodes.Switch from (to + 1) out x y z)))
 
   pub exact_type_switch : {x y z : Forest} {from mid mid2 to : ℕ} → HasWord tokens from words.Switch → Spells tokens MaybeInit x (from + 1) mid → Spells tokens TypeGuard y mid mid2 → HasMark tokens mid2 marks.OpenBrace → Spells tokens Cases z (mid2 + 1) to → HasMark tokens to marks.CloseBrace → Spells tokens Stmt (one nodes.TypeSwitch from (to + 1) (beside x (beside y z))) from (to + 1) → OfInit tokens x (from + 1) mid → OfGuard tokens y mid mid2 → Exact tokens Cases z (mid2 + 1) to → OfStmt tokens (one nodes.TypeSwitch from (to + 1) (beside x (beside y z))) from (to + 1)
   exact_type_switch {x} {y} {z} {from} {mid} {mid2} {to} h s t b u c whole ihx ihy ihz = begun_by tokens (at_word h) refl whole
       (λ n out enough ends.
-          let within = within_word h in
-          let inside = within_mark b in
-          let forward = ahead tokens s in
-          let onward = ahead tokens t in
-          let more : 0 < n = omega arith in
-          let head = guard_head ihx ihy s b from (n - 1) out (omega arith) in
-          let cases = ihz (n - 1) ((out ++ posts x) ++ posts y) (omega arith) c in
-          read_more tokens n (The Stmt) from out more ∙ simp h.there (head ∙ simp (b.there, cases, c.there, over_three nodes.TypeSwitch from (to + 1) out x y z)))
+      let within = within_word h in
+      let inside = within_mark b in
+      let forward = ahead tokens s in
+      let onward = ahead tokens t in
+      let more : 0 < n = omega arith in
+      let head = guard_head ihx ihy s b from (n - 1) out (omega arith) in
+      let cases = ihz (n - 1) ((out ++ posts x) ++ posts y) (omega arith) c in
+      read_more tokens n (The Stmt) from out more ∙ simp h.there (head ∙ simp (b.there, cases, c.there, over_three nodes.TypeSwitch from (to + 1) out x y z)))

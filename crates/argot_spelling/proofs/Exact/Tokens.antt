@@ -1,18 +1,17 @@
 -- What a token tells of the tests on it.
-use Rattle.std.proofs.Common.{◌≡◌, ℕ, ◌+◌, ◌<◌, ◌≤◌, List, length, Bool, true, false, Option, Some, None, refl, sym, ap, ◌∙◌, inl, inr, ⊎_elim, arith}
-use Rattle.std.specs.Prelude.{◌==◌, ◌⊎◌, not, slice_get}
-use Rattle.std.proofs.lemmas.Bool.{eq-eqb, cases_Bool, cases_lt, false≢true}
+use Rattle.std.proofs.Common.{◌≡◌, ℕ, ◌+◌, ◌<◌, List, length, Bool, true, false, Option, Some, None, sym, ap, ◌∙◌, ⊎_elim}
+use Rattle.std.specs.Prelude.{◌==◌, not}
+use Rattle.std.proofs.lemmas.Bool.{cases_Bool, cases_lt, false≢true}
 use Rattle.std.proofs.lemmas.Option.{slice_get_past}
 use Rattle.argot_tree.specs.declared.keyword.Keyword.{Keyword}
 use Rattle.argot_tree.specs.declared.keyword.Keyword.TheVariants as words
 use Rattle.argot_tree.specs.declared.mark.Mark.{Mark}
 use Rattle.argot_tree.specs.declared.mark.Mark.TheVariants as marks
-use Rattle.argot_tree.specs.declared.node_kind.NodeKind.{NodeKind}
 use Rattle.argot_tree.specs.declared.token.TokenKind.{TokenKind}
 use Rattle.argot_tree.specs.declared.token.TokenKind.TheVariants as kinds
 use Rattle.argot_tree.specs.declared.token.Token.{Token}
-use Rattle.argot_tree.specs.TokensAt.{kind_of, kind_at, HasAt, HasWord, HasMark, HasUnary, Passes, Fails, MaybeComma, left_out, comma, is_semicolon, is_literal, begins_type, begins_conversion, unary_of, level_of, level_at, mark_level}
-use Rattle.argot_spelling.specs.Reading.{kind_number, is_kind, is_at, is_mark}
+use Rattle.argot_tree.specs.TokensAt.{kind_of, kind_at, HasAt, HasWord, HasMark, Passes, Fails, MaybeComma, left_out, comma, begins_type, begins_conversion}
+use Rattle.argot_spelling.specs.Reading.{kind_number, is_kind, is_at}
 use Rattle.argot_spelling.specs.StatementReader.{ends_stmt}
 use Rattle.argot_spelling.proofs.TokenTests.{kind_is}
 

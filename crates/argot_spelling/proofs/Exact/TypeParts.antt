@@ -1,32 +1,26 @@
 -- Types that are spelled are read.
-use Rattle.std.proofs.Common.{◌≡◌, ℕ, zero, suc, ◌+◌, ◌-◌, ◌*◌, ◌<◌, ◌≤◌, List, [], ◌∷◌, ◌++◌, length, Bool, true, false, ◌&&◌, Option, Some, None, refl, sym, ap, ◌∙◌, subst, inl, inr, ⊎_elim, arith}
-use Rattle.std.specs.Prelude.{slice_get, ◌==◌, ◌⊎◌, reverse, drop}
-use Rattle.std.proofs.lemmas.List.{append-nil}
-use Rattle.std.proofs.lemmas.Bool.{eq-eqb, cases_Bool, false≢true}
+use Rattle.std.proofs.Common.{◌≡◌, ℕ, ◌+◌, ◌-◌, ◌<◌, List, true, false, ◌&&◌, Option, Some, None, refl, sym, ap, ◌∙◌, arith}
+use Rattle.std.proofs.Math.Bool.{and-false}
+use Rattle.std.proofs.lemmas.Bool.{false≢true}
 use Rattle.argot_tree.specs.declared.keyword.Keyword.TheVariants as words
-use Rattle.argot_tree.specs.declared.mark.Mark.{Mark}
 use Rattle.argot_tree.specs.declared.mark.Mark.TheVariants as marks
-use Rattle.argot_tree.specs.declared.node_kind.NodeKind.{NodeKind}
 use Rattle.argot_tree.specs.declared.node_kind.NodeKind.TheVariants as nodes
 use Rattle.argot_tree.specs.declared.token.TokenKind.{TokenKind}
 use Rattle.argot_tree.specs.declared.token.TokenKind.TheVariants as kinds
 use Rattle.argot_tree.specs.declared.token.Token.{Token}
-use Rattle.argot_tree.specs.Forests.{Forest, leaf, beside, one}
-use Rattle.argot_tree.specs.TokensAt.{kind_at, HasAt, HasWord, HasMark, Passes, Fails, is_star, is_literal, begins_type, begins_conversion, unary_of}
+use Rattle.argot_tree.specs.Forests.{Forest, leaf, one}
+use Rattle.argot_tree.specs.TokensAt.{kind_at, HasAt, HasMark, Passes, Fails, is_star, is_literal, begins_conversion, unary_of}
 use Rattle.argot_tree.specs.Grammar.{Spells, AnyType, OnlyType}
 use Rattle.argot_spelling.specs.declared.post.Post.{Post}
-use Rattle.argot_spelling.specs.Posts.{posts}
-use Rattle.argot_spelling.specs.Rooms.{room}
-use Rattle.argot_spelling.specs.Reading.{The, UnaryOr, PrimaryOr, OperandOr, Answer, closed, closing, is_kind, is_at, is_mark, is_word, ◌>>=◌}
+use Rattle.argot_spelling.specs.Reading.{The, UnaryOr, PrimaryOr, OperandOr, is_kind, is_mark, is_word}
 use Rattle.argot_spelling.specs.ExpressionReader.{typed}
 use Rattle.argot_spelling.specs.Reader.{read}
 use Rattle.argot_spelling.proofs.Steps.{read_more}
-use Rattle.argot_spelling.proofs.PostLaws.{put_posts, length-posts}
-use Rattle.argot_spelling.proofs.Exact.Nodes.{over, over_two}
-use Rattle.argot_spelling.proofs.Exact.Ahead.{ahead}
+use Rattle.argot_spelling.proofs.PostLaws.{put_posts}
+use Rattle.argot_spelling.proofs.Exact.Nodes.{over}
 use Rattle.argot_spelling.proofs.Exact.Starts.{starts}
-use Rattle.argot_spelling.proofs.Exact.Tokens.{Not, other, apart, lacking, stops, at_mark, at_word, by_kind, by_mark, within_at, within_mark, within_word}
-use Rattle.argot_spelling.proofs.Exact.Claims.{Gets, OfType, OfOnlyType, OfArrow, Exact}
+use Rattle.argot_spelling.proofs.Exact.Tokens.{Not, other, apart, lacking, stops, at_mark, within_mark}
+use Rattle.argot_spelling.proofs.Exact.Claims.{OfType, OfOnlyType, OfArrow}
 
 conversion_unary : (o : Option TokenKind) → begins_conversion o ≡ true → unary_of o ≡ None
 conversion_unary (Some (kinds.Mark marks.OpenBracket)) h = refl
@@ -45,11 +39,6 @@ conversion_literal (Some (kinds.Word words.Func)) h = refl
 conversion_literal (Some (kinds.Word words.Struct)) h = refl
 conversion_literal (Some (kinds.Word words.Interface)) h = refl
 conversion_literal _ h = absurd (false≢true h)
-
--- a test before that fails either way
-and_false : (b : Bool) → (b && false) ≡ false
-and_false true = refl
-and_false false = refl
 
 module _ (tokens : List Token) where
   -- no arrow stands there
@@ -129,7 +118,7 @@ module _ (tokens : List Token) where
       let first : unary_of (kind_at tokens at) ≡ None = conversion_unary (kind_at tokens at) start.there in
       let literal : is_literal (kind_at tokens at) ≡ false = conversion_literal (kind_at tokens at) start.there in
       let operand : read tokens (n - 1 - 1) (OperandOr true true) at out ≡ Some (to, new) =
-          read_more tokens (n - 1 - 1) (OperandOr true true) at out three_more ∙ simp (name.is, literal, paren.is, func, array, start.there, reads, e.brace, e.paren, and_false) in
+      read_more tokens (n - 1 - 1) (OperandOr true true) at out three_more ∙ simp (name.is, literal, paren.is, func, array, start.there, reads, e.brace, e.paren, and-false) in
       let primary : read tokens (n - 1) (PrimaryOr true true) at out ≡ Some (to, new) =
-          read_more tokens (n - 1) (PrimaryOr true true) at out two_more ∙ simp (operand, t) in
+      read_more tokens (n - 1) (PrimaryOr true true) at out two_more ∙ simp (operand, t) in
       read_more tokens n (UnaryOr true true) at out one_more ∙ simp (star.is, arrow.is, first, primary)

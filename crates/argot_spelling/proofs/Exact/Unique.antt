@@ -1,18 +1,13 @@
 -- A file that is spelled is read whole, so at most one tree spells it.
-use Rattle.std.proofs.Common.{◌≡◌, ℕ, ◌+◌, ◌-◌, ◌*◌, ◌≤◌, List, [], ◌++◌, length, Bool, true, false, Option, Some, None, refl, sym, ap, ◌∙◌, arith}
+use Rattle.std.proofs.Common.{◌≡◌, ◌+◌, ◌*◌, List, [], length, Some, None, sym, ap, ◌∙◌, arith}
 use Rattle.std.proofs.lemmas.Option.{slice_get_past}
 use Rattle.argot_tree.specs.declared.token.Token.{Token}
-use Rattle.argot_tree.specs.declared.tree.Tree.{Tree}
 use Rattle.argot_tree.specs.Forests.{Forest, nodes_from}
 use Rattle.argot_tree.specs.TokensAt.{kind_of, Passes}
 use Rattle.argot_tree.specs.Grammar.{Spells, File}
-use Rattle.argot_tree.specs.Trees.{SpellsTree}
 use Rattle.argot_spelling.specs.declared.post.Post.{Post}
-use Rattle.argot_spelling.specs.Posts.{posts}
-use Rattle.argot_spelling.specs.Rooms.{room}
-use Rattle.argot_spelling.specs.Reading.{The, Answer}
+use Rattle.argot_spelling.specs.Reading.{Answer}
 use Rattle.argot_spelling.specs.FileReader.{is_end}
-use Rattle.argot_spelling.specs.Reader.{read}
 use Rattle.argot_spelling.specs.Laws.{SpelledRead, OneTree}
 use Rattle.argot_spelling.proofs.Exact.Whole.{exact}
 use Rattle.argot_spelling.proofs.Exact.Planting.{same_trees}

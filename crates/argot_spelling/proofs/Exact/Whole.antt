@@ -1,8 +1,8 @@
 -- What is spelled is read, where nothing behind it goes on with it: one clause for each production.
-use Rattle.std.proofs.Common.{◌≡◌, ℕ, ◌+◌, ◌≤◌, List, [], ◌++◌, length, true, Option, Some, None, refl, sym, ap, ◌∙◌, arith}
+use Rattle.std.proofs.Common.{ℕ, List, true, refl}
 use Rattle.argot_tree.specs.declared.token.Token.{Token}
 use Rattle.argot_tree.specs.Forests.{Forest}
-use Rattle.argot_tree.specs.Grammar.{Part, Spells, File, file, no_import, one_import, import_one, import_group, no_spec, last_spec, one_spec, spec, dot_spec, named_spec, no_top, one_top, top_decl, top_func, no_receiver, a_receiver, receiver_type, receiver_named, no_type_params, some_type_params, no_body, a_body, type_params, balanced_none, balanced_token, balanced_parens, balanced_brackets, balanced_braces, decl_const, group_const, decl_var, group_var, decl_type, group_type, no_declared, last_declared, one_declared, constants, constants_are, variables_typed, variables_are, untyped, typed, no_values, some_values, type_spec, alias_spec, generic_spec, generic_alias, last_name, one_name, no_result, results, result, no_params, params, named_params, last_param, one_param, variadic_param, last_named, one_named, lone_named, variadic_named, type_name, qualified_type, type_parens, pointer_type, only_pointer, array_type, slice_type, map_type, chan_type, send_type, receive_type, func_type, struct_type, interface_type, formed_type, no_field, last_field, one_field, named_field, embedded_field, embedded_pointer, embedded_name, embedded_qualified, no_tag, a_tag, no_element, last_element, one_element, method, embedded_type, unary_level, binary, unary, primary, operand, literal, name_use, parens, func_literal, composite, open_composite, bare_composite, conversion, selector, index, slice_all, slice_from, slice_to, slice_between, slice_to_max, slice_between_max, assertion, call_none, call, spread_call, last_expr, one_expr, either_expr, either_type, last_either, one_either, no_elems, elems, last_item, one_item, item, keyed_item, value_expr, value_elems, block, no_stmt, last_stmt, one_stmt, empty_stmt, decl_stmt, simple_stmt, labeled, labeled_empty, go_stmt, defer_stmt, return_none, return_values, break_stmt, continue_stmt, goto_stmt, fallthrough_stmt, block_stmt, if_stmt, no_label, a_label, expr_stmt, send, increment, decrement, assign, op_assign, define, no_init, empty_init, an_init, if_, no_else, else_if, else_block, switch, type_switch, no_tag_expr, tag_expr, guard, named_guard, no_case, one_case, case, default_case, select, no_comm, one_comm, send_comm, assign_comm, define_comm, receive_comm, default_comm, while_loop, for_loop, for_empty, no_condition, a_condition, empty_post, a_post, range_loop, assign_range, define_range}
+use Rattle.argot_tree.specs.Grammar.{Part, Spells, file, no_import, one_import, import_one, import_group, no_spec, last_spec, one_spec, spec, dot_spec, named_spec, no_top, one_top, top_decl, top_func, no_receiver, a_receiver, receiver_type, receiver_named, no_type_params, some_type_params, no_body, a_body, type_params, balanced_none, balanced_token, balanced_parens, balanced_brackets, balanced_braces, decl_const, group_const, decl_var, group_var, decl_type, group_type, no_declared, last_declared, one_declared, constants, constants_are, variables_typed, variables_are, untyped, typed, no_values, some_values, type_spec, alias_spec, generic_spec, generic_alias, last_name, one_name, no_result, results, result, no_params, params, named_params, last_param, one_param, variadic_param, last_named, one_named, lone_named, variadic_named, type_name, qualified_type, type_parens, pointer_type, only_pointer, array_type, slice_type, map_type, chan_type, send_type, receive_type, func_type, struct_type, interface_type, formed_type, no_field, last_field, one_field, named_field, embedded_field, embedded_pointer, embedded_name, embedded_qualified, no_tag, a_tag, no_element, last_element, one_element, method, embedded_type, unary_level, binary, unary, primary, operand, literal, name_use, parens, func_literal, composite, open_composite, bare_composite, conversion, selector, index, slice_all, slice_from, slice_to, slice_between, slice_to_max, slice_between_max, assertion, call_none, call, spread_call, last_expr, one_expr, either_expr, either_type, last_either, one_either, no_elems, elems, last_item, one_item, item, keyed_item, value_expr, value_elems, block, no_stmt, last_stmt, one_stmt, empty_stmt, decl_stmt, simple_stmt, labeled, labeled_empty, go_stmt, defer_stmt, return_none, return_values, break_stmt, continue_stmt, goto_stmt, fallthrough_stmt, block_stmt, if_stmt, no_label, a_label, expr_stmt, send, increment, decrement, assign, op_assign, define, no_init, empty_init, an_init, if_, no_else, else_if, else_block, switch, type_switch, no_tag_expr, tag_expr, guard, named_guard, no_case, one_case, case, default_case, select, no_comm, one_comm, send_comm, assign_comm, define_comm, receive_comm, default_comm, while_loop, for_loop, for_empty, no_condition, a_condition, empty_post, a_post, range_loop, assign_range, define_range}
 use Rattle.argot_spelling.proofs.Exact.Tokens.{by_mark, follows}
 use Rattle.argot_spelling.proofs.Exact.Levels.{level_gets}
 use Rattle.argot_spelling.proofs.Exact.Claims.{Exact, no_statement, empty_statement, a_statement, no_expression, an_expression, guarded, named_guarded}

@@ -1,22 +1,15 @@
 -- The parts that are read by themselves: what is read is the longest, and where nothing is read none begins.
-use Rattle.std.proofs.Common.{◌≡◌, ℕ, ◌+◌, ◌-◌, ◌*◌, ◌≤◌, List, [], ◌++◌, length, Option, Some, None, refl, sym, ap, ◌∙◌, subst, arith}
+use Rattle.std.proofs.Common.{◌≡◌, ℕ, List, [], ◌++◌, Some, None, sym, ap, ◌∙◌, arith}
 use Rattle.std.proofs.lemmas.Bool.{false≢true}
 use Rattle.std.specs.Prelude.{Bool, true, false}
 use Rattle.argot_tree.specs.declared.token.Token.{Token}
-use Rattle.argot_tree.specs.declared.tree.TreeNode.{TreeNode}
-use Rattle.argot_tree.specs.Forests.{Forest}
-use Rattle.argot_tree.specs.Grammar.{Part, Spells, Decl, Signature, Params, AnyType, Level, Block}
-use Rattle.argot_tree.specs.Trees.{SpellsNodes, IsLongestPart, BeginsNoPart}
-use Rattle.argot_spelling.specs.declared.post.Post.{Post}
+use Rattle.argot_tree.specs.Grammar.{Decl, Signature, Params, AnyType, Level, Block}
 use Rattle.argot_spelling.specs.Posts.{posts}
-use Rattle.argot_spelling.specs.Rooms.{room, rank}
-use Rattle.argot_spelling.specs.Reading.{The, Answer}
-use Rattle.argot_spelling.specs.Reader.{read}
-use Rattle.argot_spelling.specs.Laws.{IsAlone, Reaches, SpelledReached, ReadLongest, ReadNone}
+use Rattle.argot_spelling.specs.Reading.{Answer}
+use Rattle.argot_spelling.specs.Laws.{Reaches, SpelledReached, ReadLongest, ReadNone}
 use Rattle.argot_spelling.proofs.Sound.{reads_spelled}
 use Rattle.argot_spelling.proofs.Exact.Whole.{exact}
 use Rattle.argot_spelling.proofs.Far.Goes.{Goes}
-use Rattle.argot_spelling.proofs.Far.TypeParts.{goes}
 use Rattle.argot_spelling.proofs.Far.Expressions.{level_goes}
 use Rattle.argot_spelling.proofs.Far.Whole.{far}
 

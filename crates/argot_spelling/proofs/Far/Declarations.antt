@@ -1,17 +1,12 @@
 -- A declaration is read at least as far as any that is spelled where it begins.
-use Rattle.std.proofs.Common.{◌≡◌, ℕ, zero, suc, ◌+◌, ◌-◌, ◌*◌, ◌<◌, ◌≤◌, List, [], ◌∷◌, ◌++◌, length, Bool, true, false, ◌&&◌, Option, Some, None, refl, sym, ap, ◌∙◌, subst, inl, inr, ⊎_elim, arith}
-use Rattle.std.specs.Prelude.{◌==◌, ◌⊎◌, nat_le}
-use Rattle.std.proofs.lemmas.List.{append-nil}
-use Rattle.std.proofs.lemmas.Bool.{cases_Bool, false≢true, and_from, and_left, and_right, le-leb, lt-leb}
+use Rattle.std.proofs.Common.{◌≡◌, ℕ, zero, suc, ◌+◌, ◌-◌, ◌<◌, ◌≤◌, List, ◌++◌, length, true, Some, refl, ◌∙◌, arith}
 use Rattle.argot_tree.specs.declared.keyword.Keyword.TheVariants as words
 use Rattle.argot_tree.specs.declared.mark.Mark.TheVariants as marks
-use Rattle.argot_tree.specs.declared.node_kind.NodeKind.{NodeKind}
 use Rattle.argot_tree.specs.declared.node_kind.NodeKind.TheVariants as nodes
-use Rattle.argot_tree.specs.declared.token.TokenKind.{TokenKind}
 use Rattle.argot_tree.specs.declared.token.TokenKind.TheVariants as kinds
 use Rattle.argot_tree.specs.declared.token.Token.{Token}
-use Rattle.argot_tree.specs.Forests.{Forest, leaf, beside, one}
-use Rattle.argot_tree.specs.TokensAt.{kind_at, HasAt, HasWord, HasMark, Passes, follows_parameter}
+use Rattle.argot_tree.specs.Forests.{Forest, one}
+use Rattle.argot_tree.specs.TokensAt.{HasAt, HasWord, HasMark, Passes, follows_parameter}
 use Rattle.argot_tree.specs.Grammar.{Spells, Sort, Constant, Variable, TypeSort, Names, AnyType, MaybeTyped, MaybeValues, Exprs, TypeParams, Declared, DeclaredList, Decl, last_name, one_name, no_values, some_values}
 use Rattle.argot_spelling.specs.declared.post.Post.{Post}
 use Rattle.argot_spelling.specs.Posts.{posts}
@@ -20,15 +15,15 @@ use Rattle.argot_spelling.specs.Reading.{The, Answer, ◌>>=◌, try_on, closed,
 use Rattle.argot_spelling.specs.DeclarationReader.{values_by}
 use Rattle.argot_spelling.specs.Reader.{read}
 use Rattle.argot_spelling.proofs.Steps.{read_more}
-use Rattle.argot_spelling.proofs.TokenTests.{has_at, has_mark}
+use Rattle.argot_spelling.proofs.TokenTests.{has_at}
 use Rattle.argot_spelling.proofs.Exact.Nodes.{over, declared, names_it}
 use Rattle.argot_spelling.proofs.Exact.Ahead.{ahead}
 use Rattle.argot_spelling.proofs.Exact.Starts.{starts}
-use Rattle.argot_spelling.proofs.Exact.Tokens.{Not, other, apart, at_mark, at_word, within_at, within_mark, within_word, within_pass}
+use Rattle.argot_spelling.proofs.Exact.Tokens.{other, apart, at_mark, within_at, within_mark, within_word}
 use Rattle.argot_spelling.proofs.Exact.Members.{names_forward}
 use Rattle.argot_spelling.proofs.Exact.Seconds.{either_way}
 use Rattle.argot_spelling.proofs.Exact.Declarations.{typed_comma, not_generic, generic}
-use Rattle.argot_spelling.proofs.Exact.Claims.{Gets, OfType, Exact}
+use Rattle.argot_spelling.proofs.Exact.Claims.{OfType, Exact}
 use Rattle.argot_spelling.proofs.Far.Goes.{Goes, Ahead, goes_some, goes_by, goes_try, ahead_of, bind, choose, something, nothing, forward, part}
 use Rattle.argot_spelling.proofs.Far.TypeParts.{goes, FarType}
 use Rattle.argot_spelling.proofs.Far.Expressions.{FarExprs, exprs_go}
@@ -42,13 +37,13 @@ module _ (tokens : List Token) where
       let more : 0 < n = omega arith in
       either_way (is_mark tokens (at + 1) marks.Comma)
       (λ c. either_way (is_at tokens (at + 2) kinds.Name)
-          (λ i. let name = has_at (at + 2) kinds.Name i in
-              let inside = within_at name in
-              let g = names_read left (n - 1) (at + 2) (put nodes.DeclName at (at + 1) out) (omega arith) name (omega arith) in
-              let reads = g.is in
-              let far = g.far in
-              goes g.found (read_more tokens n (The Names) at out more ∙ simp (h.there, c, i, reads)) (omega arith))
-          (λ i. goes (at + 1, put nodes.DeclName at (at + 1) out) (read_more tokens n (The Names) at out more ∙ simp (h.there, c, i)) (omega arith)))
+      (λ i. let name = has_at (at + 2) kinds.Name i in
+      let inside = within_at name in
+      let g = names_read left (n - 1) (at + 2) (put nodes.DeclName at (at + 1) out) (omega arith) name (omega arith) in
+      let reads = g.is in
+      let far = g.far in
+      goes g.found (read_more tokens n (The Names) at out more ∙ simp (h.there, c, i, reads)) (omega arith))
+      (λ i. goes (at + 1, put nodes.DeclName at (at + 1) out) (read_more tokens n (The Names) at out more ∙ simp (h.there, c, i)) (omega arith)))
       (λ c. goes (at + 1, put nodes.DeclName at (at + 1) out) (read_more tokens n (The Names) at out more ∙ simp (h.there, c)) (omega arith))
 
   far_names : {x : Forest} {from to : ℕ} → Spells tokens Names x from to → (n : ℕ) (out : List Post) → room tokens from 1 ≤ n → Goes to (read tokens n (The Names) from out)
@@ -108,7 +103,7 @@ module _ (tokens : List Token) where
       goes_by whole
       (goes_try behind
       (λ r e. let further : g.found.0 ≤ r.0 = ahead_of behind (bind (read tokens (n - 1) (The MaybeTyped) g.found.0 named) (forward tokens (n - 1) MaybeTyped g.found.0 named) (λ q h. values_ahead (n - 1) q h)) r e in
-          goes_some (r.0, closed nodes.ConstSpec from r.0 (length out) r.1) (omega arith))
+      goes_some (r.0, closed nodes.ConstSpec from r.0 (length out) r.1) (omega arith))
       (goes_some (g.found.0, closed nodes.ConstSpec from g.found.0 (length out) named) reached))
 
   pub far_constants_are : {x y : Forest} {from mid mid2 to : ℕ} → Spells tokens Names x from mid → Spells tokens MaybeTyped y mid mid2 → HasMark tokens mid2 marks.Assign → Exact tokens Names x from mid → Exact tokens MaybeTyped y mid mid2 → FarExprs tokens true (mid2 + 1) to → FarDeclared Constant from to

@@ -1,22 +1,19 @@
 -- An expression is read at least as far as any that is spelled where it begins.
-use Rattle.std.proofs.Common.{◌≡◌, ℕ, zero, suc, ◌+◌, ◌-◌, ◌*◌, ◌<◌, ◌≤◌, List, [], ◌∷◌, ◌++◌, length, Bool, true, false, ◌&&◌, Option, Some, None, refl, sym, ap, ◌∙◌, subst, inl, inr, ⊎_elim, arith}
-use Rattle.std.specs.Prelude.{◌==◌, ◌⊎◌, nat_le}
-use Rattle.std.proofs.lemmas.List.{append-nil}
-use Rattle.std.proofs.lemmas.Bool.{cases_Bool, false≢true, and_from, and_left, and_right, le-leb, lt-leb}
-use Rattle.argot_tree.specs.declared.keyword.Keyword.TheVariants as words
+use Rattle.std.proofs.Common.{◌≡◌, ℕ, ◌+◌, ◌-◌, ◌<◌, ◌≤◌, List, ◌++◌, length, Bool, true, false, Some, None, refl, ap, ◌∙◌, subst, inl, inr, ⊎_elim, arith}
+use Rattle.std.specs.Prelude.{◌⊎◌}
+use Rattle.std.proofs.Math.Bool.{and-false}
 use Rattle.argot_tree.specs.declared.mark.Mark.TheVariants as marks
 use Rattle.argot_tree.specs.declared.node_kind.NodeKind.{NodeKind}
 use Rattle.argot_tree.specs.declared.node_kind.NodeKind.TheVariants as nodes
-use Rattle.argot_tree.specs.declared.token.TokenKind.{TokenKind}
 use Rattle.argot_tree.specs.declared.token.TokenKind.TheVariants as kinds
 use Rattle.argot_tree.specs.declared.token.Token.{Token}
 use Rattle.argot_tree.specs.Forests.{Forest, leaf, beside, one}
-use Rattle.argot_tree.specs.TokensAt.{kind_at, HasAt, HasMark, HasUnary, Passes, level_at, unary_of}
+use Rattle.argot_tree.specs.TokensAt.{kind_at, HasAt, HasMark, HasUnary, level_at, unary_of}
 use Rattle.argot_tree.specs.Grammar.{Spells, Level, Unary, Primary, Operand, Exprs, Elems, operand, literal, name_use, parens, func_literal, composite, open_composite, bare_composite, conversion, selector, index, slice_all, slice_from, slice_to, slice_between, slice_to_max, slice_between_max, assertion, call_none, call, spread_call}
 use Rattle.argot_spelling.specs.declared.post.Post.{Post}
 use Rattle.argot_spelling.specs.Posts.{posts}
 use Rattle.argot_spelling.specs.Rooms.{room}
-use Rattle.argot_spelling.specs.Reading.{The, UnaryOr, PrimaryOr, OperandOr, Climb, Suffixes, MoreExprs, Answer, try_on, closed, put, closing, is_at, is_mark}
+use Rattle.argot_spelling.specs.Reading.{The, UnaryOr, PrimaryOr, OperandOr, Climb, Suffixes, MoreExprs, Answer, try_on, closed, put, closing, is_mark}
 use Rattle.argot_spelling.specs.TypeReader.{is_dotted}
 use Rattle.argot_spelling.specs.Reader.{read}
 use Rattle.argot_spelling.proofs.Steps.{read_more}
@@ -26,19 +23,15 @@ use Rattle.argot_spelling.proofs.Exact.Nodes.{over_two}
 use Rattle.argot_spelling.proofs.Exact.Roots.{rooted_typed, operand_root}
 use Rattle.argot_spelling.proofs.Exact.Ahead.{ahead}
 use Rattle.argot_spelling.proofs.Exact.Starts.{starts}
-use Rattle.argot_spelling.proofs.Exact.Tokens.{Not, other, apart, follows, begins_operand, at_mark, by_mark, within_at, within_mark, within_pass}
+use Rattle.argot_spelling.proofs.Exact.Tokens.{other, apart, follows, at_mark, by_mark, within_at, within_mark, within_pass}
 use Rattle.argot_spelling.proofs.Exact.Seconds.{either_way}
 use Rattle.argot_spelling.proofs.Exact.Levels.{operator_at, stays_at, no_brace_at, climb_step, level_gets, operand_no_unary}
 use Rattle.argot_spelling.proofs.Exact.Suffixes.{further, exact_selector, exact_index, exact_slice_all, exact_slice_from, exact_slice_to, exact_slice_between, exact_slice_to_max, exact_slice_between_max, exact_assertion, exact_call_none, exact_call, exact_spread_call}
-use Rattle.argot_spelling.proofs.Exact.Operands.{exact_literal, exact_name_use, exact_parens, exact_func_literal, exact_composite, exact_open_composite, exact_bare_composite, exact_conversion}
-use Rattle.argot_spelling.proofs.Exact.Claims.{Gets, NoBrace, OfLevel, Comes, OfPrimary, WholeOperand, WholePrimary}
+use Rattle.argot_spelling.proofs.Exact.Operands.{exact_literal, exact_parens, exact_func_literal, exact_composite, exact_open_composite, exact_bare_composite, exact_conversion}
+use Rattle.argot_spelling.proofs.Exact.Claims.{Gets, OfLevel, Comes, WholeOperand, WholePrimary}
 use Rattle.argot_spelling.proofs.Exact.Whole.{exact}
 use Rattle.argot_spelling.proofs.Far.Goes.{Goes, goes_some, goes_by, goes_from, goes_try, ahead_of, forward, suffixes_go, climb_goes, more_goes}
 use Rattle.argot_spelling.proofs.Far.TypeParts.{goes}
-
-and_false : (b : Bool) → (b && false) ≡ false
-and_false true = refl
-and_false false = refl
 
 module _ (tokens : List Token) where
   -- reading comes to the loop behind an expression, at least as far
@@ -119,8 +112,8 @@ module _ (tokens : List Token) where
       either_way (is_mark tokens from marks.Star)
       (λ star. let there = has_mark from marks.Star star in goes (g.found.0, closed nodes.Deref from g.found.0 (length out) g.found.1) (read_more tokens n (UnaryOr false b) from out more ∙ simp (there.there, reads)) g.far)
       (λ no_star. either_way (is_mark tokens from marks.Arrow)
-          (λ arrow. let there = has_mark from marks.Arrow arrow in goes (g.found.0, closed nodes.Receive from g.found.0 (length out) g.found.1) (read_more tokens n (UnaryOr false b) from out more ∙ simp (there.there, reads)) g.far)
-          (λ no_arrow. goes (g.found.0, closed kind from g.found.0 (length out) g.found.1) (read_more tokens n (UnaryOr false b) from out more ∙ simp (no_star, no_arrow, h.there, reads)) g.far))
+      (λ arrow. let there = has_mark from marks.Arrow arrow in goes (g.found.0, closed nodes.Receive from g.found.0 (length out) g.found.1) (read_more tokens n (UnaryOr false b) from out more ∙ simp (there.there, reads)) g.far)
+      (λ no_arrow. goes (g.found.0, closed kind from g.found.0 (length out) g.found.1) (read_more tokens n (UnaryOr false b) from out more ∙ simp (no_star, no_arrow, h.there, reads)) g.far))
 
   pub far_unary : {kind : NodeKind} {b : Bool} {x : Forest} {from to : ℕ} → HasUnary tokens from kind → Spells tokens (Unary b) (one kind from to x) from to → FarUnary b (from + 1) to → FarUnary b from to
   far_unary {b = b} h whole ih = unary_goes b h (within_pass (starts tokens whole) refl) ih
@@ -173,13 +166,13 @@ module _ (tokens : List Token) where
       let more : 0 < n = omega arith in
       either_way (is_dotted tokens from)
       (λ d. either_way (is_mark tokens (from + 3) marks.OpenBrace)
-          (λ b. let reads : read tokens n (OperandOr false true) from out ≡ try_on (read tokens (n - 1) (The Elems) (from + 3) (put nodes.QualifiedType from (from + 3) out)) (closing nodes.Composite from out) (Some (from + 1, put nodes.NameUse from (from + 1) out)) = read_more tokens n (OperandOr false true) from out more ∙ simp (h.there, d, b) in
-              goes_by reads (braced_goes from (n - 1) (from + 3) out (put nodes.QualifiedType from (from + 3) out) (omega arith)))
-          (λ b. goes (from + 1, put nodes.NameUse from (from + 1) out) (read_more tokens n (OperandOr false true) from out more ∙ simp (h.there, d, b)) (omega arith)))
+      (λ b. let reads : read tokens n (OperandOr false true) from out ≡ try_on (read tokens (n - 1) (The Elems) (from + 3) (put nodes.QualifiedType from (from + 3) out)) (closing nodes.Composite from out) (Some (from + 1, put nodes.NameUse from (from + 1) out)) = read_more tokens n (OperandOr false true) from out more ∙ simp (h.there, d, b) in
+      goes_by reads (braced_goes from (n - 1) (from + 3) out (put nodes.QualifiedType from (from + 3) out) (omega arith)))
+      (λ b. goes (from + 1, put nodes.NameUse from (from + 1) out) (read_more tokens n (OperandOr false true) from out more ∙ simp (h.there, d, b)) (omega arith)))
       (λ d. either_way (is_mark tokens (from + 1) marks.OpenBrace)
-          (λ b. let reads : read tokens n (OperandOr false true) from out ≡ try_on (read tokens (n - 1) (The Elems) (from + 1) (put nodes.TypeName from (from + 1) out)) (closing nodes.Composite from out) (Some (from + 1, put nodes.NameUse from (from + 1) out)) = read_more tokens n (OperandOr false true) from out more ∙ simp (h.there, d, b) in
-              goes_by reads (braced_goes from (n - 1) (from + 1) out (put nodes.TypeName from (from + 1) out) (omega arith)))
-          (λ b. goes (from + 1, put nodes.NameUse from (from + 1) out) (read_more tokens n (OperandOr false true) from out more ∙ simp (h.there, d, b)) (omega arith)))
+      (λ b. let reads : read tokens n (OperandOr false true) from out ≡ try_on (read tokens (n - 1) (The Elems) (from + 1) (put nodes.TypeName from (from + 1) out)) (closing nodes.Composite from out) (Some (from + 1, put nodes.NameUse from (from + 1) out)) = read_more tokens n (OperandOr false true) from out more ∙ simp (h.there, d, b) in
+      goes_by reads (braced_goes from (n - 1) (from + 1) out (put nodes.TypeName from (from + 1) out) (omega arith)))
+      (λ b. goes (from + 1, put nodes.NameUse from (from + 1) out) (read_more tokens n (OperandOr false true) from out more ∙ simp (h.there, d, b)) (omega arith)))
 
   -- a name alone
   data IsName : Forest → ℕ → ℕ → Type 0 where
@@ -199,7 +192,7 @@ module _ (tokens : List Token) where
       record {
         steps = n - 1;
         enough = omega (arith, ahead tokens s);
-        comes = read_more tokens n (PrimaryOr types b) from out more ∙ simp (reads, rooted_typed out (operand_root tokens s), and_false);
+        comes = read_more tokens n (PrimaryOr types b) from out more ∙ simp (reads, rooted_typed out (operand_root tokens s), and-false);
       }
 
   primary_ends : {b : Bool} {x : Forest} {from to : ℕ} → Spells tokens (Primary b) x from to → Ending b x from to ⊎ IsName x from to
@@ -249,10 +242,10 @@ module _ (tokens : List Token) where
       let dotted : is_dotted tokens from ≡ true = simp (d.there, i.there) in
       either_way (is_mark tokens (from + 3) marks.OpenBrace)
       (λ b. let type = put nodes.QualifiedType from (from + 3) out in
-          let operand_reads : read tokens (n - 1) (OperandOr false true) from out ≡ try_on (read tokens (n - 1 - 1) (The Elems) (from + 3) type) (closing nodes.Composite from out) (Some (from + 1, put nodes.NameUse from (from + 1) out)) = read_more tokens (n - 1) (OperandOr false true) from out two_more ∙ simp (h.there, dotted, b) in
-          by_elems n out (read tokens (n - 1 - 1) (The Elems) (from + 3) type) (forward_elems (n - 1 - 1) (from + 3) type) more (omega arith) operand_reads)
+      let operand_reads : read tokens (n - 1) (OperandOr false true) from out ≡ try_on (read tokens (n - 1 - 1) (The Elems) (from + 3) type) (closing nodes.Composite from out) (Some (from + 1, put nodes.NameUse from (from + 1) out)) = read_more tokens (n - 1) (OperandOr false true) from out two_more ∙ simp (h.there, dotted, b) in
+      by_elems n out (read tokens (n - 1 - 1) (The Elems) (from + 3) type) (forward_elems (n - 1 - 1) (from + 3) type) more (omega arith) operand_reads)
       (λ b. let reads : Gets tokens (n - 1) (OperandOr false true) from out name (from + 1) = read_more tokens (n - 1) (OperandOr false true) from out two_more ∙ simp (h.there, dotted, b, put_posts nodes.NameUse from (from + 1) out) in
-          inl (record { steps = n - 1; enough = omega arith; comes = read_more tokens n (PrimaryOr false true) from out more ∙ rw reads refl }))
+      inl (record { steps = n - 1; enough = omega arith; comes = read_more tokens n (PrimaryOr false true) from out more ∙ rw reads refl }))
 
   named_before : {b : Bool} {x : Forest} {from to : ℕ} → IsName x from to → HasMark tokens to marks.Dot → HasAt tokens (to + 1) kinds.Name → (n : ℕ) (out : List Post) → room tokens from 3 ≤ n → Comes tokens false b n out x from to ⊎ ComesFar b n out from (to + 2)
   named_before {b} (is_name {from = from} h) d i n out enough =
@@ -265,8 +258,8 @@ module _ (tokens : List Token) where
       let name = one nodes.SelectedName (to + 1) (to + 2) leaf in
       let no_brace = other (kinds.Mark marks.OpenBrace) (at_mark d) refl in
       let goes_on : Comes tokens false b n out x from to → ComesFar b n out from (to + 2) = λ r.
-          comes_far (further tokens false b n out x (one nodes.Selector from (to + 2) (beside x name)) from to (to + 2) (within_mark d) (omega arith) r
-          (simp (d.there, h.there, put_posts nodes.SelectedName (to + 1) (to + 2) (out ++ posts x), over_two nodes.Selector from (to + 2) out x name))) in
+      comes_far (further tokens false b n out x (one nodes.Selector from (to + 2) (beside x name)) from to (to + 2) (within_mark d) (omega arith) r
+      (simp (d.there, h.there, put_posts nodes.SelectedName (to + 1) (to + 2) (out ++ posts x), over_two nodes.Selector from (to + 2) out x name))) in
       ⊎_elim
       (λ e. goes_on (e n out enough (λ _. no_brace.is)))
       (λ i. ⊎_elim goes_on (λ g. g) (named_before i d h n out enough))

@@ -1,23 +1,17 @@
 -- What is read reaches some place: no part ends before it begins, and a loop comes to something.
-use Rattle.std.proofs.Common.{◌≡◌, ℕ, zero, suc, ◌+◌, ◌-◌, ◌*◌, ◌<◌, ◌≤◌, List, [], ◌∷◌, ◌++◌, length, Bool, true, false, ◌&&◌, Option, Some, None, cond, refl, sym, ap, ◌∙◌, subst, inl, inr, ⊎_elim, arith}
-use Rattle.std.specs.Prelude.{◌==◌, ◌⊎◌, nat_le}
-use Rattle.std.proofs.lemmas.List.{append-nil}
-use Rattle.std.proofs.lemmas.Bool.{cases_Bool, false≢true, and_from, and_left, and_right, le-leb, lt-leb}
-use Rattle.argot_tree.specs.declared.keyword.Keyword.TheVariants as words
+use Rattle.std.proofs.Common.{◌≡◌, ℕ, zero, suc, ◌+◌, ◌≤◌, List, Bool, true, false, Some, None, cond, refl, ◌∙◌, subst, arith}
 use Rattle.argot_tree.specs.declared.mark.Mark.TheVariants as marks
 use Rattle.argot_tree.specs.declared.node_kind.NodeKind.{NodeKind}
 use Rattle.argot_tree.specs.declared.node_kind.NodeKind.TheVariants as nodes
-use Rattle.argot_tree.specs.declared.token.TokenKind.{TokenKind}
 use Rattle.argot_tree.specs.declared.token.TokenKind.TheVariants as kinds
 use Rattle.argot_tree.specs.declared.token.Token.{Token}
-use Rattle.argot_tree.specs.Forests.{Forest, leaf, beside, one}
 use Rattle.std.proofs.lemmas.Bool.{cond_both}
 use Rattle.argot_tree.specs.declared.mark.Mark.{Mark}
-use Rattle.argot_tree.specs.TokensAt.{kind_at, level_at}
+use Rattle.argot_tree.specs.TokensAt.{level_at}
 use Rattle.argot_tree.specs.Grammar.{Part, Level, AnyType, Eithers}
 use Rattle.argot_spelling.specs.declared.post.Post.{Post}
 use Rattle.argot_spelling.specs.Reading.{The, Climb, Suffixes, MoreExprs, Answer, ◌>>=◌, try_on, closed, is_at, is_mark, past, past_list, behind_comma}
-use Rattle.argot_spelling.specs.ExpressionReader.{climbs, bracket_end, arguments_by, closing_since, dot_by, third_by, second_by, from_start_by, behind_first_by, bracket_by, call_by, suffix_by}
+use Rattle.argot_spelling.specs.ExpressionReader.{climbs, bracket_end, arguments_by, closing_since, dot_by, second_by, behind_first_by, bracket_by, call_by, suffix_by}
 use Rattle.argot_spelling.specs.Reader.{read}
 use Rattle.argot_spelling.proofs.Sound.{reads_spelled}
 use Rattle.argot_spelling.proofs.Exact.Ahead.{ahead}
@@ -117,8 +111,8 @@ module _ (tokens : List Token) where
     first_ahead r h =
         choose (is_mark tokens r.0 marks.Colon)
         (choose (is_mark tokens (r.0 + 1) marks.CloseBracket)
-            (something (r.0 + 2, closed nodes.SliceFrom start (r.0 + 2) mark r.1) (omega arith))
-            (bind (read tokens n (The (Level 1 true)) (r.0 + 1) r.1) (part n (Level 1 true) (r.0 + 1) r.1 (omega arith)) (λ q g. second_ahead nodes.SliceBetween nodes.SliceBetweenMax q g)))
+        (something (r.0 + 2, closed nodes.SliceFrom start (r.0 + 2) mark r.1) (omega arith))
+        (bind (read tokens n (The (Level 1 true)) (r.0 + 1) r.1) (part n (Level 1 true) (r.0 + 1) r.1 (omega arith)) (λ q g. second_ahead nodes.SliceBetween nodes.SliceBetweenMax q g)))
         (bracket_ahead nodes.Index r h)
 
     arguments_ahead : {at : ℕ} (r : ℕ × List Post) → at ≤ r.0 → Ahead at (arguments_by tokens start mark r)
@@ -132,15 +126,15 @@ module _ (tokens : List Token) where
         choose (is_at tokens (at + 1) kinds.Name)
         (something _ (omega arith))
         (choose (is_mark tokens (at + 1) marks.OpenParen)
-            (bind (read tokens n (The AnyType) (at + 2) out >>= past tokens marks.CloseParen) (bind (read tokens n (The AnyType) (at + 2) out) (part n AnyType (at + 2) out (omega arith)) (λ q g. passes marks.CloseParen q g)) (λ q g. closes_since nodes.TypeAssertion start mark q g))
-            nothing)
+        (bind (read tokens n (The AnyType) (at + 2) out >>= past tokens marks.CloseParen) (bind (read tokens n (The AnyType) (at + 2) out) (part n AnyType (at + 2) out (omega arith)) (λ q g. passes marks.CloseParen q g)) (λ q g. closes_since nodes.TypeAssertion start mark q g))
+        nothing)
 
     brackets_ahead : (at : ℕ) (out : List Post) → Ahead at (bracket_by tokens (read tokens n) start mark at out)
     brackets_ahead at out =
         choose (is_mark tokens (at + 1) marks.Colon)
         (choose (is_mark tokens (at + 2) marks.CloseBracket)
-            (something (at + 3, closed nodes.SliceAll start (at + 3) mark out) (omega arith))
-            (bind (read tokens n (The (Level 1 true)) (at + 2) out) (part n (Level 1 true) (at + 2) out (omega arith)) (λ q g. second_ahead nodes.SliceTo nodes.SliceToMax q g)))
+        (something (at + 3, closed nodes.SliceAll start (at + 3) mark out) (omega arith))
+        (bind (read tokens n (The (Level 1 true)) (at + 2) out) (part n (Level 1 true) (at + 2) out (omega arith)) (λ q g. second_ahead nodes.SliceTo nodes.SliceToMax q g)))
         (bind (read tokens n (The (Level 1 true)) (at + 1) out) (part n (Level 1 true) (at + 1) out (omega arith)) (λ q g. first_ahead q g))
 
     call_ahead : (at : ℕ) (out : List Post) → Ahead at (call_by tokens (read tokens n) start mark at out)
@@ -170,9 +164,9 @@ module _ (tokens : List Token) where
   climb_goes (suc n) k limit bare start mark at out =
       goes_choose (climbs k limit (level_at tokens at))
       (λ _. goes_try (read tokens n (The (Level (level_at tokens at + 1) bare)) (at + 1) out)
-          (λ r e. let further : at + 1 ≤ r.0 = ahead_of (read tokens n (The (Level (level_at tokens at + 1) bare)) (at + 1) out) (forward n (Level (level_at tokens at + 1) bare) (at + 1) out) r e in
-              goes_from r.0 (omega arith) (climb_goes n k (level_at tokens at) bare start mark r.0 (closed nodes.Binary start r.0 mark r.1)))
-          (goes_some (at, out) (omega arith)))
+      (λ r e. let further : at + 1 ≤ r.0 = ahead_of (read tokens n (The (Level (level_at tokens at + 1) bare)) (at + 1) out) (forward n (Level (level_at tokens at + 1) bare) (at + 1) out) r e in
+      goes_from r.0 (omega arith) (climb_goes n k (level_at tokens at) bare start mark r.0 (closed nodes.Binary start r.0 mark r.1)))
+      (goes_some (at, out) (omega arith)))
       (λ _. goes_some (at, out) (omega arith))
 
   pub more_goes : (n : ℕ) (bare : Bool) (at : ℕ) (out : List Post) → Goes at (read tokens n (MoreExprs bare) at out)
@@ -181,7 +175,7 @@ module _ (tokens : List Token) where
   more_goes (suc n) bare at out =
       goes_choose (is_mark tokens at marks.Comma)
       (λ _. goes_try (read tokens n (The (Level 1 bare)) (at + 1) out)
-          (λ r e. let further : at + 1 ≤ r.0 = ahead_of (read tokens n (The (Level 1 bare)) (at + 1) out) (forward n (Level 1 bare) (at + 1) out) r e in
-              goes_from r.0 (omega arith) (more_goes n bare r.0 r.1))
-          (goes_some (at, out) (omega arith)))
+      (λ r e. let further : at + 1 ≤ r.0 = ahead_of (read tokens n (The (Level 1 bare)) (at + 1) out) (forward n (Level 1 bare) (at + 1) out) r e in
+      goes_from r.0 (omega arith) (more_goes n bare r.0 r.1))
+      (goes_some (at, out) (omega arith)))
       (λ _. goes_some (at, out) (omega arith))

@@ -1,32 +1,28 @@
 -- A type is read at least as far as any that is spelled where it begins.
-use Rattle.std.proofs.Common.{◌≡◌, ℕ, zero, suc, ◌+◌, ◌-◌, ◌*◌, ◌<◌, ◌≤◌, List, [], ◌∷◌, ◌++◌, length, Bool, true, false, ◌&&◌, Option, Some, None, refl, sym, ap, ◌∙◌, subst, inl, inr, ⊎_elim, arith}
-use Rattle.std.specs.Prelude.{◌==◌, ◌⊎◌, nat_le}
-use Rattle.std.proofs.lemmas.List.{append-nil}
-use Rattle.std.proofs.lemmas.Bool.{cases_Bool, false≢true, and_from, and_left, and_right, le-leb, lt-leb}
+use Rattle.std.proofs.Common.{◌≡◌, ℕ, ◌+◌, ◌-◌, ◌<◌, ◌≤◌, List, ◌++◌, length, true, false, Some, refl, sym, ap, ◌∙◌, arith}
+use Rattle.std.proofs.lemmas.Bool.{false≢true}
 use Rattle.argot_tree.specs.declared.keyword.Keyword.TheVariants as words
 use Rattle.argot_tree.specs.declared.mark.Mark.TheVariants as marks
-use Rattle.argot_tree.specs.declared.node_kind.NodeKind.{NodeKind}
 use Rattle.argot_tree.specs.declared.node_kind.NodeKind.TheVariants as nodes
-use Rattle.argot_tree.specs.declared.token.TokenKind.{TokenKind}
 use Rattle.argot_tree.specs.declared.token.TokenKind.TheVariants as kinds
 use Rattle.argot_tree.specs.declared.token.Token.{Token}
-use Rattle.argot_tree.specs.Forests.{Forest, leaf, beside, one}
-use Rattle.argot_tree.specs.TokensAt.{kind_at, HasAt, HasWord, HasMark, Passes, Fails, is_star, is_arrow, is_open_paren, begins_type}
+use Rattle.argot_tree.specs.Forests.{Forest}
+use Rattle.argot_tree.specs.TokensAt.{HasAt, HasWord, HasMark, Fails, is_star, is_arrow, is_open_paren, begins_type}
 use Rattle.argot_tree.specs.Grammar.{Spells, AnyType, OnlyType, Signature, Params, Fields, Elements, Level}
 use Rattle.argot_spelling.specs.declared.post.Post.{Post}
 use Rattle.argot_spelling.specs.Posts.{posts}
 use Rattle.argot_spelling.specs.Rooms.{room}
-use Rattle.argot_spelling.specs.Reading.{The, Answer, closed, put, is_at, is_mark}
+use Rattle.argot_spelling.specs.Reading.{The, Answer, closed, put}
 use Rattle.argot_spelling.specs.TypeReader.{is_dotted}
 use Rattle.argot_spelling.specs.Reader.{read}
 use Rattle.argot_spelling.proofs.Steps.{read_more}
 use Rattle.argot_spelling.proofs.Exact.Ahead.{ahead}
 use Rattle.argot_spelling.proofs.Exact.Starts.{starts}
-use Rattle.argot_spelling.proofs.Exact.Tokens.{Not, other, apart, lacking, begins_only, at_mark, within_at, within_mark, within_word, within_pass}
+use Rattle.argot_spelling.proofs.Exact.Tokens.{other, apart, lacking, at_mark, within_mark, within_word}
 use Rattle.argot_spelling.proofs.Exact.Signatures.{params_end}
 use Rattle.argot_spelling.proofs.Exact.Seconds.{either_way}
 use Rattle.argot_spelling.proofs.Exact.Claims.{Gets, OfType, Exact}
-use Rattle.argot_spelling.proofs.Far.Goes.{Goes, goes_some, goes_by}
+use Rattle.argot_spelling.proofs.Far.Goes.{Goes}
 
 -- an answer that is known
 pub goes : {at : ℕ} {a : Answer} (r : ℕ × List Post) → a ≡ Some r → at ≤ r.0 → Goes at a

@@ -1,5 +1,5 @@
 -- What is read reaches at least as far as anything that is spelled where it begins.
-use Rattle.std.proofs.Common.{◌≡◌, ℕ, ◌+◌, ◌≤◌, List, true, refl, arith}
+use Rattle.std.proofs.Common.{ℕ, List, true, refl}
 use Rattle.argot_tree.specs.declared.token.Token.{Token}
 use Rattle.argot_tree.specs.Forests.{Forest}
 use Rattle.argot_tree.specs.Grammar.{Part, Spells, Decl, Declared, MaybeValues, Signature, AnyType, OnlyType, Level, Unary, Primary, Operand, Exprs, unary_level, binary, unary, primary, operand, name_use, selector, last_expr, one_expr, literal, parens, func_literal, composite, open_composite, bare_composite, conversion, index, slice_all, slice_from, slice_to, slice_between, slice_to_max, slice_between_max, assertion, call_none, call, spread_call, type_name, qualified_type, type_parens, pointer_type, formed_type, only_pointer, array_type, slice_type, map_type, chan_type, send_type, receive_type, func_type, struct_type, interface_type, no_result, results, result, no_values, some_values, constants, constants_are, variables_typed, variables_are, type_spec, alias_spec, generic_spec, generic_alias, decl_const, group_const, decl_var, group_var, decl_type, group_type}
