@@ -2,3 +2,4 @@ pub mod LinkLaws
 pub mod NestingLaws
 pub mod NameLaws
 pub mod FrontLaws
+pub mod ChainLaws

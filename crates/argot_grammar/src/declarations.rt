@@ -372,8 +372,12 @@ pub fn type_params(
     if fuel == 0 {
         return Ok(None);
     }
-    if !(is_mark(tokens, at, Mark::OpenBracket) && is_name(tokens, at + 1)) {
+    if !is_mark(tokens, at, Mark::OpenBracket) {
         missing(out, at);
+        return Ok(None);
+    }
+    if !is_name(tokens, at + 1) {
+        missing(out, at + 1);
         return Ok(None);
     }
     let mark = out.posts.len();

@@ -8,6 +8,7 @@ ghost use Rattle.argot_spelling.specs.Reading.{The, Gives, closed, put, is_mark}
 ghost use Rattle.argot_spelling.specs.TypeReader.{embedded_by, tag_by, named_field_by};
 ghost use Rattle.argot_spelling.specs.Reader.{read};
 
+use crate::notes::{name_behind_comma, type_behind_names};
 use crate::peek::{is_mark, is_name, names_then_type, semicolon_at, text_at};
 use crate::signatures::signature;
 use crate::types::{any_type, named_type};
@@ -36,6 +37,7 @@ pub fn names(
         }
         put(out, NodeKind::DeclName, at, at + 1)?;
         if !(is_mark(tokens, at + 1, Mark::Comma) && is_name(tokens, at + 2)) {
+            name_behind_comma(tokens, out, at + 1);
             return Ok(Some(at + 1));
         }
         at += 2;
@@ -82,6 +84,7 @@ fn field(
     if names_then_type(tokens, at) {
         return named_field(tokens, out, fuel - 1, at);
     }
+    type_behind_names(tokens, out, at);
     let mark = out.posts.len();
     if is_mark(tokens, at, Mark::Star) {
         let Some(mid) = embedded(tokens, out, at + 1)? else {

@@ -10,6 +10,7 @@ ghost use Rattle.argot_tree.specs.TokensAt.{kind_at, is_semicolon};
 
 use crate::blocks::block;
 use crate::expressions::level;
+use crate::notes::values_behind_names;
 use crate::peek::{assign_at, defines, guards, is_mark, is_word, ranges, semicolon_at};
 use crate::statements::{assign, more_expressions_behind, simple, simple_behind};
 use crate::writer::{Writer, close, close_all, missing, put, undo};
@@ -104,6 +105,7 @@ pub fn opening(
         };
         return Ok(at_semicolon(tokens, out, to, mark));
     }
+    values_behind_names(tokens, out, at);
     let Some(mid) = level(tokens, out, fuel, 1, false, at)? else {
         return Ok(None);
     };

@@ -16,6 +16,7 @@ mod heads;
 mod linking;
 mod loops;
 mod nesting;
+mod notes;
 mod operands;
 mod peek;
 mod pending;
@@ -26,9 +27,15 @@ mod switches;
 mod types;
 mod writer;
 
+pub use blocks::block;
+pub use declarations::{closed_by_paren, decl, type_params};
 pub use fault::ParseFault;
 pub use linking::link;
 pub use nesting::first_too_deep;
+pub use peek::{is_mark, is_name, is_word, semicolon_at, text_at, type_at};
+pub use signatures::signature;
+pub use types::any_type;
+pub use writer::{Writer, close, expect, expect_list, missing, put, undo};
 
 #[cfg(test)]
 mod tests;

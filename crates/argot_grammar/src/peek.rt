@@ -186,7 +186,7 @@ pub fn is_dotted(tokens: &[Token], at: usize) -> bool
 
 #[tactic(auto, using(crate::proofs::NameLaws::names_go_on, crate::proofs::NameLaws::no_comma, crate::proofs::NameLaws::no_name))]
 // Behind the names with commas between that begin at a name.
-fn behind_names(tokens: &[Token], at: usize) -> usize
+pub fn behind_names(tokens: &[Token], at: usize) -> usize
     requires { at < length tokens.now }
     ensures { result ≡ behind_names tokens.now at }
 {

@@ -14,6 +14,7 @@ use crate::expressions::{expressions, level};
 use crate::fields::names;
 use crate::heads::ifs;
 use crate::loops::{for_stmt, select_stmt};
+use crate::notes::values_behind_names;
 use crate::peek::{
     assign_at, defines, ends_stmt_at, is_label, is_mark, is_name, kind_at, op_assign_at,
 };
@@ -329,6 +330,7 @@ pub fn simple(
     if defines(tokens, at) {
         return define(tokens, out, fuel - 1, bare, at);
     }
+    values_behind_names(tokens, out, at);
     let mark = out.posts.len();
     let Some(mid) = level(tokens, out, fuel - 1, 1, bare, at)? else {
         return Ok(None);

@@ -140,6 +140,7 @@ pub fn keep(out: &mut Writer, may: bool, to: usize, mark: usize) -> Option<usize
     if may {
         return Some(to);
     }
+    missing(out, to);
     undo(out, mark);
     None
 }

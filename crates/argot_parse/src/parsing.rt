@@ -39,6 +39,7 @@ pub fn parse(alloc: Global, tokens: &Vec<Token>) -> Result<Tree, ParseFault>
         });
     }
     let mut out = Writer {
+        alloc,
         posts: Vec::new(alloc),
         furthest: 0,
     };
