@@ -1,8 +1,14 @@
-use Rattle.std.proofs.Common.{◌≡◌, take, arith}
+use Rattle.std.proofs.Common.{◌≡◌, ◌-◌, ◌+◌, ◌<◌, ◌≤◌, ◌∷◌, [], ◌++◌, length, reverse, take, Some, None, true, false, sym, ap, ◌∙◌, arith}
 use Rattle.std.proofs.lemmas.Grind.{common_steps}
+use Rattle.argot_tree.specs.declared.keyword.Keyword.TheVariants as words
+use Rattle.argot_tree.specs.declared.node_kind.NodeKind.TheVariants as nodes
+use Rattle.argot_spelling.specs.Reading.{Ifs, Labels, closed_all, is_word}
+use Rattle.argot_spelling.specs.StatementReader.{labels}
+use Rattle.argot_spelling.specs.Reader.{read}
 use Rattle.argot_spelling.proofs.Steps.{read_more}
-use Rattle.argot_grammar.proofs.FrontLaws.{through}
 use Rattle.argot_spelling.proofs.Grows.{kept, kept_more, kept_opening, kept_condition, kept_assign, kept_simple, kept_named, kept_embedded, kept_tag, kept_result}
+use Rattle.argot_grammar.proofs.FrontLaws.{through}
+use Rattle.argot_grammar.proofs.ChainLaws.{pushed, ifs_to, ifs_end, no_else, else_if, else_block, else_none, labels_to}
 use Rattle.argot_grammar.proofs.+reading.Goals as goal
 
 pub elements::items-loop-fuel-preserved : goal.elements::items-loop-fuel-preserved
@@ -44,12 +50,12 @@ pub signatures::named_params-loop-fuel-preserved : goal.signatures::named_params
 signatures::named_params-loop-fuel-preserved t c = record {
   reads = grind (arith, common_steps, read_more);
   kept =
-      let m = c.len-mark.result in
-      let named = c.put.new.out.posts.items in
-      let typed = c.any_type-in-loop-fuel.new.out.posts.items in
-      let front : take m named ≡ c.args.out.now.posts.items = grind (arith, common_steps) in
-      let shown : take m typed ≡ c.args.out.now.posts.items = through m c.args.out.now.posts.items named typed (grind (arith, common_steps)) (grind (arith, common_steps, kept)) front in
-      through m c.args.out.now.posts.items typed c.close-in-loop-fuel.new.out.posts.items (grind (arith, common_steps, kept)) (grind (arith, common_steps)) shown;
+    let m = c.len-mark.result in
+    let named = c.put.new.out.posts.items in
+    let typed = c.any_type-in-loop-fuel.new.out.posts.items in
+    let front : take m named ≡ c.args.out.now.posts.items = grind (arith, common_steps) in
+    let shown : take m typed ≡ c.args.out.now.posts.items = through m c.args.out.now.posts.items named typed (grind (arith, common_steps)) (grind (arith, common_steps, kept)) front in
+    through m c.args.out.now.posts.items typed c.close-in-loop-fuel.new.out.posts.items (grind (arith, common_steps, kept)) (grind (arith, common_steps)) shown;
   fewer = omega arith;
 }
 
@@ -128,9 +134,6 @@ blocks::stmts-returns-then-not-semicolon_at t c = grind (arith, common_steps, re
 pub declarations::declared_list-returns-then-not-semicolon_at : goal.declarations::declared_list-returns-then-not-semicolon_at
 declarations::declared_list-returns-then-not-semicolon_at t c = grind (arith, common_steps, read_more, kept)
 
-pub declarations::type_spec-returns : goal.declarations::type_spec-returns
-declarations::type_spec-returns t c = grind (arith, common_steps, kept)
-
 pub declarations::type_spec-named_type-requires-2 : goal.declarations::type_spec-named_type-requires-2
 declarations::type_spec-named_type-requires-2 t c = grind (arith, common_steps, kept)
 
@@ -146,18 +149,6 @@ heads::condition-returns t c = grind (arith, common_steps, kept_opening)
 pub heads::condition-condition_behind-requires : goal.heads::condition-condition_behind-requires
 heads::condition-condition_behind-requires t c = grind (arith, common_steps, kept_opening)
 
-pub heads::ifs-returns-in_default-2 : goal.heads::ifs-returns-in_default-2
-heads::ifs-returns-in_default-2 t c = grind (arith, common_steps, read_more, kept, kept_condition)
-
-pub heads::ifs-returns-in_default-3 : goal.heads::ifs-returns-in_default-3
-heads::ifs-returns-in_default-3 t c = grind (arith, common_steps, read_more, kept, kept_condition)
-
-pub heads::ifs-returns-then-not-is_word-2 : goal.heads::ifs-returns-then-not-is_word-2
-heads::ifs-returns-then-not-is_word-2 t c = grind (arith, common_steps, read_more)
-
-pub heads::ifs-returns-in-loop-fuel : goal.heads::ifs-returns-in-loop-fuel
-heads::ifs-returns-in-loop-fuel t c = grind (arith, common_steps, read_more)
-
 pub heads::listed-returns : goal.heads::listed-returns
 heads::listed-returns t c = grind (arith, common_steps, kept_assign)
 
@@ -172,12 +163,6 @@ loops::received-clause-requires t c = grind (arith, common_steps, kept)
 
 pub loops::received-clause-requires-2 : goal.loops::received-clause-requires-2
 loops::received-clause-requires-2 t c = grind (arith, common_steps, kept)
-
-pub loops::received-returns : goal.loops::received-returns
-loops::received-returns t c = grind (arith, common_steps, kept)
-
-pub loops::received-returns-then-is_mark : goal.loops::received-returns-then-is_mark
-loops::received-returns-then-is_mark t c = grind (arith, common_steps, kept)
 
 pub loops::comm_behind-returns : goal.loops::comm_behind-returns
 loops::comm_behind-returns t c = grind (arith, common_steps, kept_more)
@@ -224,9 +209,6 @@ switches::switch_tag-returns t c = grind (arith, common_steps, kept)
 pub switches::switch_tag-named_guard-requires : goal.switches::switch_tag-named_guard-requires
 switches::switch_tag-named_guard-requires t c = grind (arith, common_steps, kept)
 
-pub switches::switch_tag-returns-then-is_mark-2 : goal.switches::switch_tag-returns-then-is_mark-2
-switches::switch_tag-returns-then-is_mark-2 t c = grind (arith, common_steps, kept)
-
 pub switches::defined-returns : goal.switches::defined-returns
 switches::defined-returns t c = grind (arith, common_steps, kept_more)
 
@@ -242,9 +224,6 @@ switches::switch_head-opened_switch-requires t c = grind (arith, common_steps, k
 pub switches::switch_head-defined-requires : goal.switches::switch_head-defined-requires
 switches::switch_head-defined-requires t c = grind (arith, common_steps, kept)
 
-pub switches::switch_head-returns-then-is_mark-2 : goal.switches::switch_head-returns-then-is_mark-2
-switches::switch_head-returns-then-is_mark-2 t c = grind (arith, common_steps, kept)
-
 pub switches::case-clause-requires : goal.switches::case-clause-requires
 switches::case-clause-requires t c = grind (arith, common_steps, kept)
 
@@ -254,5 +233,213 @@ switches::case-returns-then-is_word t c = grind (arith, common_steps, read_more,
 pub switches::switched-returns-in_default-expect : goal.switches::switched-returns-in_default-expect
 switches::switched-returns-in_default-expect t c = grind (arith, common_steps, kept)
 
+pub declarations::type_spec-returns : goal.declarations::type_spec-returns
+declarations::type_spec-returns t c = 
+    let m = c.len-mark.result in
+    let old = c.args.out.now.posts.items in
+    let a = c.put.new.out.posts.items in
+    let b = c.type_params.new.out.posts.items in
+    let front : take m a ≡ old = grind (arith, common_steps) in
+    let within : m ≤ length a = grind (arith, common_steps) in
+    let same : take (length a) b ≡ a = grind (arith, common_steps, kept) in
+    let shown : take m b ≡ old = through m (old) a b within same front in
+    let marked : m ≤ length b = grind (arith, common_steps, kept) in
+    grind (arith, common_steps)
+
+pub loops::received-returns : goal.loops::received-returns
+loops::received-returns t c = 
+    let m = c.args.mark in
+    let old = c.args.out.now.posts.items in
+    let a = c.close-2.new.out.posts.items in
+    let b = c.level-2.new.out.posts.items in
+    let front : take m a ≡ take m old = grind (arith, common_steps) in
+    let within : m ≤ length a = grind (arith, common_steps) in
+    let same : take (length a) b ≡ a = grind (arith, common_steps, kept) in
+    let shown : take m b ≡ take m old = through m (take m old) a b within same front in
+    let marked : m ≤ length b = grind (arith, common_steps, kept) in
+    grind (arith, common_steps)
+
+pub loops::received-returns-then-is_mark : goal.loops::received-returns-then-is_mark
+loops::received-returns-then-is_mark t c = 
+    let m = c.args.mark in
+    let old = c.args.out.now.posts.items in
+    let a = c.close.new.out.posts.items in
+    let b = c.level.new.out.posts.items in
+    let front : take m a ≡ take m old = grind (arith, common_steps) in
+    let within : m ≤ length a = grind (arith, common_steps) in
+    let same : take (length a) b ≡ a = grind (arith, common_steps, kept) in
+    let shown : take m b ≡ take m old = through m (take m old) a b within same front in
+    let marked : m ≤ length b = grind (arith, common_steps, kept) in
+    grind (arith, common_steps)
+
+pub switches::switch_tag-returns-then-is_mark-2 : goal.switches::switch_tag-returns-then-is_mark-2
+switches::switch_tag-returns-then-is_mark-2 t c = 
+    let m = c.args.mark in
+    let old = c.args.out.now.posts.items in
+    let a = c.put.new.out.posts.items in
+    let b = c.level.new.out.posts.items in
+    let front : take m a ≡ take m old = grind (arith, common_steps) in
+    let within : m ≤ length a = grind (arith, common_steps) in
+    let same : take (length a) b ≡ a = grind (arith, common_steps, kept) in
+    let shown : take m b ≡ take m old = through m (take m old) a b within same front in
+    let marked : m ≤ length b = grind (arith, common_steps, kept) in
+    grind (arith, common_steps)
+
+pub switches::switch_head-returns-then-is_mark-2 : goal.switches::switch_head-returns-then-is_mark-2
+switches::switch_head-returns-then-is_mark-2 t c = 
+    let m = c.len-mark.result in
+    let old = c.args.out.now.posts.items in
+    let a = c.close.new.out.posts.items in
+    let b = c.level.new.out.posts.items in
+    let front : take m a ≡ old = grind (arith, common_steps) in
+    let within : m ≤ length a = grind (arith, common_steps) in
+    let same : take (length a) b ≡ a = grind (arith, common_steps, kept) in
+    let shown : take m b ≡ old = through m (old) a b within same front in
+    let marked : m ≤ length b = grind (arith, common_steps, kept) in
+    grind (arith, common_steps)
+
 pub declarations::variables-returns-in_default-4 : goal.declarations::variables-returns-in_default-4
-declarations::variables-returns-in_default-4 t c = grind (arith, common_steps, kept)
+declarations::variables-returns-in_default-4 t c = 
+    let m = c.len-mark.result in
+    let old = c.args.out.now.posts.items in
+    let a = c.close.new.out.posts.items in
+    let b = c.any_type.new.out.posts.items in
+    let front : take m a ≡ old = grind (arith, common_steps, kept) in
+    let within : m ≤ length a = grind (arith, common_steps) in
+    let same : take (length a) b ≡ a = grind (arith, common_steps, kept) in
+    let shown : take m b ≡ old = through m (old) a b within same front in
+    let marked : m ≤ length b = grind (arith, common_steps, kept) in
+    grind (arith, common_steps)
+
+pub heads::ifs-loop-fuel-preserved : goal.heads::ifs-loop-fuel-preserved
+heads::ifs-loop-fuel-preserved t c = 
+    let tokens = c.args.tokens.now in
+    let n = c.loop-fuel.fuel in
+    let at = c.loop-fuel.at in
+    let old = c.loop-fuel.out.posts.items in
+    let opened = c.condition.new.out.posts.items in
+    let begun = reverse c.loop-fuel.begun.items in
+    let more : 0 < n = omega arith in
+    let word : is_word tokens at words.If ≡ true = cc in
+    let reads = rw c.in-Some.is at c.in_ok-mid.ensures in
+    let end = c.in-Some-2.end in
+    let new = c.block.new.out.posts.items in
+    let body = rw c.in-Some-2.is at c.in_ok-end.ensures in
+    let step = ifs_to tokens n begun at c.in-Some.mid old opened end new more word reads body in
+    let items : c.push.new.self.items ≡ c.loop-fuel.begun.items ++ (at, length old) ∷ [] = grind (arith, common_steps) in
+    let newest = pushed c.loop-fuel.begun.items c.push.new.self.items (at, length old) items in
+    let m = c.len-mark.result in
+    let first = c.args.out.now.posts.items in
+    let front : take m opened ≡ first = grind (arith, common_steps, kept_condition) in
+    let is_else : is_word tokens end words.Else ≡ true = cc in
+    let is_if : is_word tokens (end + 1) words.If ≡ true = cc in
+    record {
+      reads = ap (λ b. read tokens (n - 1) (Ifs b) (end + 1) new) newest ∙ sym (else_if tokens (n - 1) ((at, length old) ∷ begun) end new is_else is_if) ∙ sym step ∙ c.loop-fuel.invariant.reads;
+      kept = grind (arith, common_steps, kept);
+      fewer = omega arith;
+    }
+
+pub heads::ifs-returns-in_default-2 : goal.heads::ifs-returns-in_default-2
+heads::ifs-returns-in_default-2 t c = 
+    let tokens = c.args.tokens.now in
+    let n = c.loop-fuel.fuel in
+    let at = c.loop-fuel.at in
+    let old = c.loop-fuel.out.posts.items in
+    let opened = c.condition.new.out.posts.items in
+    let begun = reverse c.loop-fuel.begun.items in
+    let more : 0 < n = omega arith in
+    let word : is_word tokens at words.If ≡ true = cc in
+    let reads = rw c.in-Some.is at c.in_ok-mid.ensures in
+    let none = rw c.in_default-2.is at c.in_ok-end.ensures in
+    let m = c.len-mark.result in
+    let first = c.args.out.now.posts.items in
+    let front : take m opened ≡ first = grind (arith, common_steps, kept_condition) in
+    (sym c.loop-fuel.invariant.reads ∙ ifs_end tokens n begun at c.in-Some.mid old opened more word reads none.0, grind (arith, common_steps))
+
+pub heads::ifs-returns-then-not-is_word-2 : goal.heads::ifs-returns-then-not-is_word-2
+heads::ifs-returns-then-not-is_word-2 t c = 
+    let tokens = c.args.tokens.now in
+    let n = c.loop-fuel.fuel in
+    let at = c.loop-fuel.at in
+    let old = c.loop-fuel.out.posts.items in
+    let opened = c.condition.new.out.posts.items in
+    let begun = reverse c.loop-fuel.begun.items in
+    let more : 0 < n = omega arith in
+    let word : is_word tokens at words.If ≡ true = cc in
+    let reads = rw c.in-Some.is at c.in_ok-mid.ensures in
+    let end = c.in-Some-2.end in
+    let new = c.block.new.out.posts.items in
+    let body = rw c.in-Some-2.is at c.in_ok-end.ensures in
+    let step = ifs_to tokens n begun at c.in-Some.mid old opened end new more word reads body in
+    let items : c.push.new.self.items ≡ c.loop-fuel.begun.items ++ (at, length old) ∷ [] = grind (arith, common_steps) in
+    let newest = pushed c.loop-fuel.begun.items c.push.new.self.items (at, length old) items in
+    let no_word : is_word tokens end words.Else ≡ false = cc in
+    sym c.loop-fuel.invariant.reads ∙ step ∙ no_else tokens (n - 1) ((at, length old) ∷ begun) end new no_word
+    ∙ ap (λ b. Some (end, closed_all nodes.If b end new)) (sym newest) ∙ ap (λ l. Some (end, l)) (sym c.in_ok-close_all.ensures)
+
+pub heads::ifs-returns-in_default-3 : goal.heads::ifs-returns-in_default-3
+heads::ifs-returns-in_default-3 t c = 
+    let tokens = c.args.tokens.now in
+    let n = c.loop-fuel.fuel in
+    let at = c.loop-fuel.at in
+    let old = c.loop-fuel.out.posts.items in
+    let opened = c.condition.new.out.posts.items in
+    let begun = reverse c.loop-fuel.begun.items in
+    let more : 0 < n = omega arith in
+    let word : is_word tokens at words.If ≡ true = cc in
+    let reads = rw c.in-Some.is at c.in_ok-mid.ensures in
+    let end = c.in-Some-2.end in
+    let new = c.block.new.out.posts.items in
+    let body = rw c.in-Some-2.is at c.in_ok-end.ensures in
+    let step = ifs_to tokens n begun at c.in-Some.mid old opened end new more word reads body in
+    let m = c.len-mark.result in
+    let first = c.args.out.now.posts.items in
+    let front : take m opened ≡ first = grind (arith, common_steps, kept_condition) in
+    let shown : take m new ≡ first = grind (arith, common_steps, kept) in
+    let is_else : is_word tokens end words.Else ≡ true = cc in
+    let no_if : is_word tokens (end + 1) words.If ≡ false = cc in
+    let none = rw c.in_default-3.is at c.in_ok-to.ensures in
+    (sym c.loop-fuel.invariant.reads ∙ step ∙ else_none tokens (n - 1) ((at, length old) ∷ begun) end new is_else no_if none.0, grind (arith, common_steps))
+
+pub heads::ifs-returns-in-loop-fuel : goal.heads::ifs-returns-in-loop-fuel
+heads::ifs-returns-in-loop-fuel t c = 
+    let tokens = c.args.tokens.now in
+    let n = c.loop-fuel.fuel in
+    let at = c.loop-fuel.at in
+    let old = c.loop-fuel.out.posts.items in
+    let opened = c.condition.new.out.posts.items in
+    let begun = reverse c.loop-fuel.begun.items in
+    let more : 0 < n = omega arith in
+    let word : is_word tokens at words.If ≡ true = cc in
+    let reads = rw c.in-Some.is at c.in_ok-mid.ensures in
+    let end = c.in-Some-2.end in
+    let new = c.block.new.out.posts.items in
+    let body = rw c.in-Some-2.is at c.in_ok-end.ensures in
+    let step = ifs_to tokens n begun at c.in-Some.mid old opened end new more word reads body in
+    let items : c.push.new.self.items ≡ c.loop-fuel.begun.items ++ (at, length old) ∷ [] = grind (arith, common_steps) in
+    let newest = pushed c.loop-fuel.begun.items c.push.new.self.items (at, length old) items in
+    let to = c.in-Some-3.to in
+    let last = c.block-in-loop-fuel.new.out.posts.items in
+    let is_else : is_word tokens end words.Else ≡ true = cc in
+    let no_if : is_word tokens (end + 1) words.If ≡ false = cc in
+    let other = rw c.in-Some-3.is at c.in_ok-to.ensures in
+    sym c.loop-fuel.invariant.reads ∙ step ∙ else_block tokens (n - 1) ((at, length old) ∷ begun) end new to last is_else no_if other
+    ∙ ap (λ b. Some (to, closed_all nodes.If b to last)) (sym newest) ∙ ap (λ l. Some (to, l)) (sym c.in_ok-close_all-2.ensures)
+
+pub blocks::labelled-loop-fuel-preserved : goal.blocks::labelled-loop-fuel-preserved
+blocks::labelled-loop-fuel-preserved t c = 
+    let tokens = c.args.tokens.now in
+    let n = c.loop-fuel.fuel in
+    let at = c.loop-fuel.at in
+    let old = c.loop-fuel.out.posts.items in
+    let begun = reverse c.loop-fuel.begun.items in
+    let more : 0 < n = omega arith in
+    let label : labels tokens at ≡ true = cc in
+    let items : c.push-then-is_label.new.self.items ≡ c.loop-fuel.begun.items ++ (at, length old) ∷ [] = grind (arith, common_steps) in
+    let newest = pushed c.loop-fuel.begun.items c.push-then-is_label.new.self.items (at, length old) items in
+    let named = c.put-then-is_label.new.out.posts.items in
+    record {
+      reads = (λ i. read tokens (n - 1) (Labels (newest i)) (at + 2) (c.in_ok-put-2.ensures i)) ∙ sym (labels_to tokens n begun at old more label) ∙ c.loop-fuel.invariant.reads;
+      kept = grind (arith, common_steps);
+      fewer = omega arith;
+    }
