@@ -1,4 +1,4 @@
-//! Reads the parts of a file: so far what the reading rests on.
+//! Reads types, expressions, statements and declarations.
 //!
 //! Nodes are written behind their children, each with the size of its tree, and `link` makes of them the list in
 //! preorder with first children and next siblings that `Forests.antt` of argot_tree defines. `first_too_deep` finds the
@@ -30,6 +30,7 @@ mod writer;
 pub use blocks::block;
 pub use declarations::{closed_by_paren, decl, type_params};
 pub use fault::ParseFault;
+pub use fields::names;
 pub use linking::link;
 pub use nesting::first_too_deep;
 pub use peek::{is_mark, is_name, is_word, semicolon_at, text_at, type_at};
