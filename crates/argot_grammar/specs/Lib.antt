@@ -1,3 +1,4 @@
 pub mod Links
 pub mod Linker
 pub mod Sorts
+pub mod Parts

@@ -5,6 +5,7 @@
 //! first token that is nested deeper than the parser goes. Both are one pass over a list.
 #![tactic(auto)]
 
+mod alone;
 mod arrows;
 mod blocks;
 mod declarations;
@@ -18,6 +19,7 @@ mod loops;
 mod nesting;
 mod notes;
 mod operands;
+mod parts;
 mod peek;
 mod pending;
 mod signatures;
@@ -33,6 +35,8 @@ pub use fault::ParseFault;
 pub use fields::names;
 pub use linking::link;
 pub use nesting::first_too_deep;
+pub use alone::Part;
+pub use parts::{expression, part};
 pub use peek::{is_mark, is_name, is_word, semicolon_at, text_at, type_at};
 pub use signatures::signature;
 pub use types::any_type;

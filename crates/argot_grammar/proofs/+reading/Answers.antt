@@ -50,12 +50,12 @@ pub signatures::named_params-loop-fuel-preserved : goal.signatures::named_params
 signatures::named_params-loop-fuel-preserved t c = record {
   reads = grind (arith, common_steps, read_more);
   kept =
-    let m = c.len-mark.result in
-    let named = c.put.new.out.posts.items in
-    let typed = c.any_type-in-loop-fuel.new.out.posts.items in
-    let front : take m named ≡ c.args.out.now.posts.items = grind (arith, common_steps) in
-    let shown : take m typed ≡ c.args.out.now.posts.items = through m c.args.out.now.posts.items named typed (grind (arith, common_steps)) (grind (arith, common_steps, kept)) front in
-    through m c.args.out.now.posts.items typed c.close-in-loop-fuel.new.out.posts.items (grind (arith, common_steps, kept)) (grind (arith, common_steps)) shown;
+      let m = c.len-mark.result in
+      let named = c.put.new.out.posts.items in
+      let typed = c.any_type-in-loop-fuel.new.out.posts.items in
+      let front : take m named ≡ c.args.out.now.posts.items = grind (arith, common_steps) in
+      let shown : take m typed ≡ c.args.out.now.posts.items = through m c.args.out.now.posts.items named typed (grind (arith, common_steps)) (grind (arith, common_steps, kept)) front in
+      through m c.args.out.now.posts.items typed c.close-in-loop-fuel.new.out.posts.items (grind (arith, common_steps, kept)) (grind (arith, common_steps)) shown;
   fewer = omega arith;
 }
 
@@ -234,7 +234,7 @@ pub switches::switched-returns-in_default-expect : goal.switches::switched-retur
 switches::switched-returns-in_default-expect t c = grind (arith, common_steps, kept)
 
 pub declarations::type_spec-returns : goal.declarations::type_spec-returns
-declarations::type_spec-returns t c = 
+declarations::type_spec-returns t c =
     let m = c.len-mark.result in
     let old = c.args.out.now.posts.items in
     let a = c.put.new.out.posts.items in
@@ -247,7 +247,7 @@ declarations::type_spec-returns t c =
     grind (arith, common_steps)
 
 pub loops::received-returns : goal.loops::received-returns
-loops::received-returns t c = 
+loops::received-returns t c =
     let m = c.args.mark in
     let old = c.args.out.now.posts.items in
     let a = c.close-2.new.out.posts.items in
@@ -260,7 +260,7 @@ loops::received-returns t c =
     grind (arith, common_steps)
 
 pub loops::received-returns-then-is_mark : goal.loops::received-returns-then-is_mark
-loops::received-returns-then-is_mark t c = 
+loops::received-returns-then-is_mark t c =
     let m = c.args.mark in
     let old = c.args.out.now.posts.items in
     let a = c.close.new.out.posts.items in
@@ -273,7 +273,7 @@ loops::received-returns-then-is_mark t c =
     grind (arith, common_steps)
 
 pub switches::switch_tag-returns-then-is_mark-2 : goal.switches::switch_tag-returns-then-is_mark-2
-switches::switch_tag-returns-then-is_mark-2 t c = 
+switches::switch_tag-returns-then-is_mark-2 t c =
     let m = c.args.mark in
     let old = c.args.out.now.posts.items in
     let a = c.put.new.out.posts.items in
@@ -286,7 +286,7 @@ switches::switch_tag-returns-then-is_mark-2 t c =
     grind (arith, common_steps)
 
 pub switches::switch_head-returns-then-is_mark-2 : goal.switches::switch_head-returns-then-is_mark-2
-switches::switch_head-returns-then-is_mark-2 t c = 
+switches::switch_head-returns-then-is_mark-2 t c =
     let m = c.len-mark.result in
     let old = c.args.out.now.posts.items in
     let a = c.close.new.out.posts.items in
@@ -299,7 +299,7 @@ switches::switch_head-returns-then-is_mark-2 t c =
     grind (arith, common_steps)
 
 pub declarations::variables-returns-in_default-4 : goal.declarations::variables-returns-in_default-4
-declarations::variables-returns-in_default-4 t c = 
+declarations::variables-returns-in_default-4 t c =
     let m = c.len-mark.result in
     let old = c.args.out.now.posts.items in
     let a = c.close.new.out.posts.items in
@@ -312,7 +312,7 @@ declarations::variables-returns-in_default-4 t c =
     grind (arith, common_steps)
 
 pub heads::ifs-loop-fuel-preserved : goal.heads::ifs-loop-fuel-preserved
-heads::ifs-loop-fuel-preserved t c = 
+heads::ifs-loop-fuel-preserved t c =
     let tokens = c.args.tokens.now in
     let n = c.loop-fuel.fuel in
     let at = c.loop-fuel.at in
@@ -340,7 +340,7 @@ heads::ifs-loop-fuel-preserved t c =
     }
 
 pub heads::ifs-returns-in_default-2 : goal.heads::ifs-returns-in_default-2
-heads::ifs-returns-in_default-2 t c = 
+heads::ifs-returns-in_default-2 t c =
     let tokens = c.args.tokens.now in
     let n = c.loop-fuel.fuel in
     let at = c.loop-fuel.at in
@@ -357,7 +357,7 @@ heads::ifs-returns-in_default-2 t c =
     (sym c.loop-fuel.invariant.reads ∙ ifs_end tokens n begun at c.in-Some.mid old opened more word reads none.0, grind (arith, common_steps))
 
 pub heads::ifs-returns-then-not-is_word-2 : goal.heads::ifs-returns-then-not-is_word-2
-heads::ifs-returns-then-not-is_word-2 t c = 
+heads::ifs-returns-then-not-is_word-2 t c =
     let tokens = c.args.tokens.now in
     let n = c.loop-fuel.fuel in
     let at = c.loop-fuel.at in
@@ -378,7 +378,7 @@ heads::ifs-returns-then-not-is_word-2 t c =
     ∙ ap (λ b. Some (end, closed_all nodes.If b end new)) (sym newest) ∙ ap (λ l. Some (end, l)) (sym c.in_ok-close_all.ensures)
 
 pub heads::ifs-returns-in_default-3 : goal.heads::ifs-returns-in_default-3
-heads::ifs-returns-in_default-3 t c = 
+heads::ifs-returns-in_default-3 t c =
     let tokens = c.args.tokens.now in
     let n = c.loop-fuel.fuel in
     let at = c.loop-fuel.at in
@@ -402,7 +402,7 @@ heads::ifs-returns-in_default-3 t c =
     (sym c.loop-fuel.invariant.reads ∙ step ∙ else_none tokens (n - 1) ((at, length old) ∷ begun) end new is_else no_if none.0, grind (arith, common_steps))
 
 pub heads::ifs-returns-in-loop-fuel : goal.heads::ifs-returns-in-loop-fuel
-heads::ifs-returns-in-loop-fuel t c = 
+heads::ifs-returns-in-loop-fuel t c =
     let tokens = c.args.tokens.now in
     let n = c.loop-fuel.fuel in
     let at = c.loop-fuel.at in
@@ -427,7 +427,7 @@ heads::ifs-returns-in-loop-fuel t c =
     ∙ ap (λ b. Some (to, closed_all nodes.If b to last)) (sym newest) ∙ ap (λ l. Some (to, l)) (sym c.in_ok-close_all-2.ensures)
 
 pub blocks::labelled-loop-fuel-preserved : goal.blocks::labelled-loop-fuel-preserved
-blocks::labelled-loop-fuel-preserved t c = 
+blocks::labelled-loop-fuel-preserved t c =
     let tokens = c.args.tokens.now in
     let n = c.loop-fuel.fuel in
     let at = c.loop-fuel.at in
