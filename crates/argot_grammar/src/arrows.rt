@@ -3,7 +3,7 @@ ghost use Rattle.std.specs.Prelude.{◌≡◌, ◌≤◌, ◌+◌, ◌++◌, len
 ghost use Rattle.argot_spelling.specs.Reading.{Settles};
 ghost use Rattle.argot_spelling.specs.ExpressionReader.{received, recast, ending_with, Recasts};
 
-use crate::writer::{Writer, undo};
+use crate::writer::{Writer, missing, undo};
 use argot_spelling::Post;
 use argot_text::Memory;
 use argot_tree::NodeKind;
@@ -58,6 +58,7 @@ pub fn recast(out: &mut Writer, to: usize, mark: usize) -> Result<Option<usize>,
     if recast_nodes(&mut out.posts, mark)? {
         return Ok(Some(to));
     }
+    missing(out, to);
     undo(out, mark);
     Ok(None)
 }

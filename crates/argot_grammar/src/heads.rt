@@ -10,7 +10,7 @@ ghost use Rattle.argot_tree.specs.TokensAt.{kind_at, is_semicolon};
 
 use crate::blocks::block;
 use crate::expressions::level;
-use crate::notes::values_behind_names;
+use crate::notes::{paren_behind_first_guard, range_behind_define, values_behind_names};
 use crate::peek::{assign_at, defines, guards, is_mark, is_word, ranges, semicolon_at};
 use crate::statements::{assign, more_expressions_behind, simple, simple_behind};
 use crate::writer::{Writer, close, close_all, missing, put, undo};
@@ -54,6 +54,7 @@ fn listed(
     if ranges(tokens, at) {
         return Ok(Some(at));
     }
+    range_behind_define(tokens, out, from, at);
     let Some(to) = assign(tokens, out, fuel, false, from, mark, at)? else {
         return Ok(None);
     };
@@ -82,6 +83,7 @@ fn opened(
         };
         return listed(tokens, out, fuel, from, mark, mid);
     }
+    paren_behind_first_guard(tokens, out, from, at);
     let Some(to) = simple_behind(tokens, out, fuel, false, from, mark, at)? else {
         return Ok(None);
     };

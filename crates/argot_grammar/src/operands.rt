@@ -9,6 +9,7 @@ ghost use Rattle.argot_spelling.specs.Reader.{read};
 use crate::blocks::block;
 use crate::elements::elems;
 use crate::expressions::{either, level};
+use crate::notes::bracket_behind_dots;
 use crate::peek::{composite_at, conversion_at, is_mark, is_name, is_word, literal_at};
 use crate::signatures::signature;
 use crate::types::{any_type, named_type, only_type};
@@ -56,6 +57,7 @@ pub fn operand(
     if is_open_array(tokens, at) {
         return open_array(tokens, out, fuel - 1, at);
     }
+    bracket_behind_dots(tokens, out, at);
     if conversion_at(tokens, at) {
         return type_operand(tokens, out, fuel - 1, types, at);
     }

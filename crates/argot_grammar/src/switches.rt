@@ -10,6 +10,7 @@ ghost use Rattle.argot_spelling.specs.Reader.{read};
 use crate::blocks::stmts;
 use crate::expressions::{eithers, level};
 use crate::heads::{opening, put_empty};
+use crate::notes::paren_behind_guard;
 use crate::peek::{clause_at, guards, is_mark, is_name, is_word, semicolon_at};
 use crate::statements::more_expressions_behind;
 use crate::writer::{Writer, close, expect, missing, put, undo};
@@ -33,8 +34,8 @@ fn is_operation(kind: NodeKind) -> bool
     )
 }
 
-// Whether the last node is not that of an expression with an operator.
-fn is_primary(posts: &[Post]) -> bool
+/// Whether the last node is not that of an expression with an operator.
+pub fn is_primary(posts: &[Post]) -> bool
     ensures { result ≡ is_primary posts.now }
 {
     match posts.last() {
@@ -89,6 +90,7 @@ fn tagged(
     ensures { IfOk result (λ r. Settles mark out.old.posts.items r out.new.posts.items (tagged_by tokens.now (read tokens.now fuel) from mark start since (at, out.old.posts.items))) }
 {
     if !guards(tokens, at) {
+        paren_behind_guard(tokens, out, at);
         return switched(tokens, out, fuel, NodeKind::Switch, from, mark, at);
     }
     if !is_primary(&out.posts) {
@@ -118,6 +120,7 @@ fn named_guard(
 {
     if !(guards(tokens, at) && is_primary(&out.posts)) {
         missing(out, at);
+        paren_behind_guard(tokens, out, at);
         undo(out, mark);
         return Ok(None);
     }
@@ -199,6 +202,7 @@ fn defined(
         out.posts.remove(mark + 1);
         return named_guard(tokens, out, fuel, from, mark, start, mark, at);
     }
+    paren_behind_guard(tokens, out, at);
     let Some(to) = more_expressions_behind(tokens, out, fuel, false, mark, at)? else {
         return Ok(None);
     };

@@ -9,6 +9,7 @@ ghost use Rattle.argot_spelling.specs.Reader.{read};
 
 use crate::expressions::level;
 use crate::fields::{elements, fields};
+use crate::notes::name_behind_dot;
 use crate::peek::{is_dotted, is_mark, is_name, is_word};
 use crate::signatures::signature;
 use crate::writer::{Writer, close, expect, missing, put, undo};
@@ -24,6 +25,7 @@ pub fn named_type(tokens: &[Token], out: &mut Writer, at: usize) -> Result<usize
         put(out, NodeKind::QualifiedType, at, at + 3)?;
         return Ok(at + 3);
     }
+    name_behind_dot(tokens, out, at + 1);
     put(out, NodeKind::TypeName, at, at + 1)?;
     Ok(at + 1)
 }
