@@ -29,13 +29,13 @@ mod switches;
 mod types;
 mod writer;
 
+pub use alone::Part;
 pub use blocks::block;
 pub use declarations::{closed_by_paren, decl, type_params};
 pub use fault::ParseFault;
 pub use fields::names;
 pub use linking::link;
 pub use nesting::first_too_deep;
-pub use alone::Part;
 pub use parts::{expression, part};
 pub use peek::{is_mark, is_name, is_word, semicolon_at, text_at, type_at};
 pub use signatures::signature;
