@@ -3,3 +3,4 @@ pub mod NestingLaws
 pub mod NameLaws
 pub mod FrontLaws
 pub mod ChainLaws
+pub mod AloneLaws
