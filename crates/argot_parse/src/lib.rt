@@ -15,4 +15,6 @@ pub use argot_grammar::ParseFault;
 pub use parsing::parse;
 
 #[cfg(test)]
+mod part_tests;
+#[cfg(test)]
 mod tests;
