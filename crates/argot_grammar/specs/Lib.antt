@@ -1,3 +1,4 @@
-pub mod Posts
 pub mod Links
 pub mod Linker
+pub mod Sorts
+pub mod Parts
