@@ -3,6 +3,7 @@ ghost use Rattle.std.specs.Prelude.{length, ◌<◌, ◌^◌};
 
 use crate::{ParseFault, parse};
 use argot_lex::lex;
+use argot_stubs::stub;
 use std::alloc::Global;
 use std::test::Fail;
 
@@ -623,6 +624,24 @@ fn trees_have_the_nodes_of_the_grammar(rt: HostRuntime) -> Result<(), Fail> {
     for (text, want) in TREES {
         assert!(rt; text.len() < 1000);
         assert_eq!(rt; shown_nodes(rt.alloc(), text.as_bytes())?.as_str(), want);
+    }
+    Ok(())
+}
+
+// The packages that a stub stands for.
+static STUBS: [&str; 8] = [
+    "errors", "fmt", "os", "os/exec", "strings", "log", "strconv", "sync",
+];
+
+#[test]
+fn each_stub_has_a_tree(rt: HostRuntime) -> Result<(), Fail> {
+    for path in STUBS {
+        let Some(text) = stub(path) else {
+            assert!(rt; false, "no stub of {path}");
+            continue;
+        };
+        assert!(rt; text.len() < 100_000);
+        assert_eq!(rt; shown(rt.alloc(), text.as_bytes())?.as_str(), "ok", "the stub of {path}");
     }
     Ok(())
 }
