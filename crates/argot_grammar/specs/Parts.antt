@@ -1,5 +1,5 @@
 -- The parts that are read by themselves, and what it says that none was.
-use Rattle.std.specs.Prelude.{ℕ, Bool, true, List}
+use Rattle.std.specs.Prelude.{ℕ, true, List}
 use Rattle.argot_tree.specs.declared.token.Token.{Token}
 use Rattle.argot_tree.specs.Grammar as grammar
 use Rattle.argot_tree.specs.Trees.{BeginsNoPart}

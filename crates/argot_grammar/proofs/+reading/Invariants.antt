@@ -1,4 +1,4 @@
-use Rattle.std.proofs.Common.{◌≡◌, ◌*◌, ◌+◌, ◌≤◌, length, take, reverse, []}
+use Rattle.std.proofs.Common.{◌≡◌, ◌*◌, ◌+◌, ◌≤◌, take, reverse, []}
 use Rattle.argot_tree.specs.Grammar.{Cases, Comms, DeclaredList, Eithers, Elements, Fields, Items, NamedList, Stmts, Types}
 use Rattle.argot_spelling.specs.Reading.{The, Climb, Suffixes, MoreExprs, Ifs, Labels}
 use Rattle.argot_spelling.specs.StatementReader.{label_by}
