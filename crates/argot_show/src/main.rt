@@ -1,18 +1,24 @@
 //! A window for maintainers: prints what a stage of argot made of a file.
 //!
 //! `argot_show tokens FILE` prints for each token its number, kind, start, end and text, and then the offsets of the
-//! directives; with `-count` before FILE the number of tokens alone. `tokens.rt` says what the output is. It writes as it
-//! goes: beside the file and its tokens it holds one stretch of lines.
+//! directives; `argot_show tree FILE` prints for each node of the tree its kind, its first token, its last token and the
+//! position of the first, indented by depth; with `-count` before FILE the number of tokens or of nodes alone.
+//! `tokens.rt` and `trees.rt` say what the output is. It writes as it goes: beside the file, its tokens and its tree it
+//! holds one stretch of lines.
 #![tactic(auto)]
 
+mod cursor;
 mod lines;
+mod nodes;
 mod status;
 mod tokens;
+mod trees;
 mod words;
 
 use crate::status::Status;
 use crate::tokens::show_tokens;
-use crate::words::request_of;
+use crate::trees::show_tree;
+use crate::words::{Stage, request_of};
 use argot_io::{Files, RealFiles, Sink, StdSink, write_all};
 use argot_text::{Memory, Text, Texts};
 use std::alloc::Global;
@@ -46,9 +52,12 @@ fn show<F: Files, O: Sink, E: Sink>(
     match request_of(words) {
         Some(request) => {
             let path = words.get(request.file).as_str();
-            show_tokens(alloc, path, request.count, files, out, err)
+            match request.stage {
+                Stage::Tokens => show_tokens(alloc, path, request.count, files, out, err),
+                Stage::Tree => show_tree(alloc, path, request.count, files, out, err),
+            }
         }
-        None => match write_all(err, b"argot_show: usage: argot_show tokens [-count] FILE\n") {
+        None => match write_all(err, b"argot_show: usage: argot_show tokens|tree [-count] FILE\n") {
             Ok(()) => Status::Refused,
             Err(_) => Status::WriteFault,
         },

@@ -7,6 +7,8 @@ pub enum Status {
     Shown,
     /// The words are wrong, or the stage refuses the file.
     Refused,
+    /// The file is beyond a bound.
+    Bound,
     /// The file couldn't be read.
     ReadFault,
     /// The output couldn't be written.
@@ -21,6 +23,7 @@ impl Status {
         match self {
             Status::Shown => 0,
             Status::Refused => 2,
+            Status::Bound => 4,
             Status::ReadFault => 5,
             Status::WriteFault => 6,
             Status::Memory => 7,

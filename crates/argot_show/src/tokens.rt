@@ -38,8 +38,8 @@ impl From<Memory> for Fault {
     }
 }
 
-// Writes a text whole.
-fn write_text<O: Sink>(out: &mut O, text: &[u8]) -> Result<(), Fault>
+/// Writes a text whole.
+pub fn write_text<O: Sink>(out: &mut O, text: &[u8]) -> Result<(), Fault>
     ensures ok { OnOk result (O.taken out.new ≡ taken_with (O.taken out.old) text.now) }
     ensures fault { IfErr result (IsCause (O.faults out.old) (O.faults out.new)) }
     ensures kept { OnOk result (O.faults out.new ≡ O.faults out.old) }
@@ -93,8 +93,8 @@ fn write_count<O: Sink>(alloc: Global, lexed: &Lexed, out: &mut O) -> Result<(),
     write_text(out, text.as_slice())
 }
 
-// What the files hold at the path.
-fn read_file<F: Files>(alloc: Global, path: &str, files: &mut F) -> Result<Vec<u8>, Fault>
+/// What the files hold at the path.
+pub fn read_file<F: Files>(alloc: Global, path: &str, files: &mut F) -> Result<Vec<u8>, Fault>
     ensures ok { IfOk result (λ bytes. ReadsTold (F.told files.old) path.now bytes.items) }
     ensures fault { IfErr result (λ e. e ≡ Fault.Memory ⊎ ((e ≡ Fault.Read) × Rose (F.faults files.old) (F.faults files.new))) }
 {
@@ -144,19 +144,32 @@ fn print_tokens<F: Files, O: Sink>(
     }
 }
 
-// The line of a refusal.
-fn bad_line(alloc: Global, path: &str, pos: Pos) -> Result<Out, Memory> {
+/// A line that names a place of the file, with a text before it and one behind.
+pub fn place_line(
+    alloc: Global,
+    before: &str,
+    path: &str,
+    pos: Pos,
+    behind: &str,
+) -> Result<Out, Memory> {
     let mut names = Texts::new(alloc);
     names.push(Text::from_str(alloc, path)?)?;
     let mut line = Out::new(alloc);
+    line.push_str(before)?;
     if (pos.file as usize) < names.len() {
         line.push_pos(&names, pos)?;
     }
-    line.push_str(": no token begins here\n")?;
+    line.push_str(behind)?;
     Ok(line)
 }
 
-fn unread_line(alloc: Global, path: &str) -> Result<Out, Memory> {
+/// The line that tells where no token begins.
+pub fn bad_line(alloc: Global, path: &str, pos: Pos) -> Result<Out, Memory> {
+    place_line(alloc, "", path, pos, ": no token begins here\n")
+}
+
+/// The line that tells that a file couldn't be read.
+pub fn unread_line(alloc: Global, path: &str) -> Result<Out, Memory> {
     let mut line = Out::new(alloc);
     line.push_str("argot_show: cannot read ")?;
     line.push_str(path)?;
@@ -164,8 +177,8 @@ fn unread_line(alloc: Global, path: &str) -> Result<Out, Memory> {
     Ok(line)
 }
 
-// Tells a person why; the status is that of the cause, unless the line can't be written.
-fn tell<E: Sink>(line: Result<Out, Memory>, status: Status, err: &mut E) -> Status
+/// Tells a person why; the status is that of the cause, unless the line can't be written.
+pub fn tell<E: Sink>(line: Result<Out, Memory>, status: Status, err: &mut E) -> Status
     ensures { IsTold status (E.faults err.old) (E.faults err.new) result }
 {
     match line {
