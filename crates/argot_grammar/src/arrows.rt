@@ -1,5 +1,5 @@
 // Arrows before the types of channels.
-ghost use Rattle.std.specs.Prelude.{◌≡◌, ◌≤◌, ◌+◌, ◌++◌, length, IfOk, OnOk, Option, Some, None, vec_len, take, drop, reverse, Bool, true, false};
+ghost use Rattle.std.specs.Prelude.{◌≡◌, ◌≤◌, IfOk, vec_len, take, drop, reverse};
 ghost use Rattle.argot_spelling.specs.Reading.{Settles};
 ghost use Rattle.argot_spelling.specs.ExpressionReader.{received, recast, ending_with, Recasts};
 

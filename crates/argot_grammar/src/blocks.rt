@@ -1,10 +1,10 @@
 // Blocks and lists of statements, and labels.
 #![tactic(auto, using(argot_spelling::proofs::Steps::read_more, argot_spelling::proofs::Steps::read_none, argot_spelling::proofs::Grows::kept))]
 
-ghost use Rattle.std.specs.Prelude.{◌≡◌, ◌<◌, ◌≤◌, ◌+◌, ◌-◌, ◌^◌, length, IfOk, OnOk, IfSome, IfNone, Option, Some, None, vec_len, take, reverse, [], ◌∷◌, IsTrue, Bool, true, false, if◌then◌else◌};
+ghost use Rattle.std.specs.Prelude.{◌<◌, ◌+◌, length, IfOk, []};
 ghost use Rattle.argot_tree.specs.Grammar.{Block, Stmts, MaybeLabel};
-ghost use Rattle.argot_spelling.specs.Reading.{The, Gives, closed, put};
-ghost use Rattle.argot_spelling.specs.StatementReader.{block_by, label_by};
+ghost use Rattle.argot_spelling.specs.Reading.{The, Gives};
+ghost use Rattle.argot_spelling.specs.StatementReader.{label_by};
 ghost use Rattle.argot_spelling.specs.Reader.{read};
 
 use crate::fields::closed_by_brace;

@@ -1,11 +1,11 @@
 // Declarations, and tokens with balanced brackets.
 #![tactic(auto, using(argot_spelling::proofs::Steps::read_more, argot_spelling::proofs::Steps::read_none, argot_spelling::proofs::Grows::kept))]
 
-ghost use Rattle.std.specs.Prelude.{◌≡◌, ◌<◌, ◌≤◌, ◌+◌, ◌-◌, ◌^◌, length, IfOk, OnOk, IfSome, IfNone, Option, Some, None, vec_len, take, reverse, [], ◌∷◌, IsTrue, Bool, true, false, if◌then◌else◌};
-ghost use Rattle.argot_tree.specs.Grammar.{Sort, Constant, Variable, TypeSort, Decl, Declared, DeclaredList, MaybeTyped, MaybeValues, TypeParams, Balanced};
+ghost use Rattle.std.specs.Prelude.{◌≡◌, ◌<◌, ◌≤◌, length, IfOk, IfSome, IfNone, vec_len, take, true, false};
+ghost use Rattle.argot_tree.specs.Grammar.{Constant, Variable, Decl, Declared, DeclaredList, MaybeTyped, MaybeValues, TypeParams, Balanced};
 ghost use Rattle.argot_tree.specs.declared.mark.Mark.TheVariants.{CloseParen};
-ghost use Rattle.argot_spelling.specs.Reading.{The, Gives, Settles, closed, put, is_mark};
-ghost use Rattle.argot_spelling.specs.DeclarationReader.{values_by, typed_values_by, declared_by, named_type_by, is_generic, type_by, sort_by, group_kind, decl_kind};
+ghost use Rattle.argot_spelling.specs.Reading.{The, Gives, Settles, is_mark};
+ghost use Rattle.argot_spelling.specs.DeclarationReader.{values_by, typed_values_by, declared_by, named_type_by, type_by, sort_by, group_kind, decl_kind};
 ghost use Rattle.argot_grammar.specs.Sorts.{sort_of};
 ghost use Rattle.argot_spelling.specs.FileReader.{in_brackets_by};
 ghost use Rattle.argot_spelling.specs.Reader.{read};

@@ -1,9 +1,9 @@
 // What stands in the braces of a composite literal.
 #![tactic(auto, using(argot_spelling::proofs::Steps::read_more, argot_spelling::proofs::Steps::read_none, argot_spelling::proofs::Grows::kept))]
 
-ghost use Rattle.std.specs.Prelude.{◌≡◌, ◌<◌, ◌≤◌, ◌+◌, ◌-◌, length, IfOk, OnOk, IfSome, IfNone, Option, Some, None, vec_len, take, Bool, true, false};
+ghost use Rattle.std.specs.Prelude.{IfOk};
 ghost use Rattle.argot_tree.specs.Grammar.{Elems, Items, Item, Value};
-ghost use Rattle.argot_spelling.specs.Reading.{The, Gives, closed, put};
+ghost use Rattle.argot_spelling.specs.Reading.{The, Gives};
 ghost use Rattle.argot_spelling.specs.Reader.{read};
 
 use crate::expressions::level;

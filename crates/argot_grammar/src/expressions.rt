@@ -1,9 +1,9 @@
 // Expressions, and expressions or types.
 #![tactic(auto, using(argot_spelling::proofs::Steps::read_more, argot_spelling::proofs::Steps::read_none, argot_spelling::proofs::Grows::kept))]
 
-ghost use Rattle.std.specs.Prelude.{◌≡◌, ◌<◌, ◌≤◌, ◌+◌, ◌-◌, length, IfOk, OnOk, IfSome, IfNone, Option, Some, None, vec_len, take, Bool, true, false};
+ghost use Rattle.std.specs.Prelude.{◌≡◌, IfOk, Some};
 ghost use Rattle.argot_tree.specs.Grammar.{Level, Exprs, Either, Eithers};
-ghost use Rattle.argot_spelling.specs.Reading.{The, UnaryOr, PrimaryOr, Climb, MoreExprs, Gives, closed, put};
+ghost use Rattle.argot_spelling.specs.Reading.{The, UnaryOr, PrimaryOr, Climb, MoreExprs, Gives};
 ghost use Rattle.argot_spelling.specs.ExpressionReader.{climbs, is_type, typed};
 ghost use Rattle.argot_spelling.specs.Reader.{read};
 

@@ -1,10 +1,10 @@
 // Fields of structs, elements of interfaces, and names.
 #![tactic(auto, using(argot_spelling::proofs::Steps::read_more, argot_spelling::proofs::Steps::read_none, argot_spelling::proofs::Grows::kept))]
 
-ghost use Rattle.std.specs.Prelude.{◌≡◌, ◌<◌, ◌≤◌, ◌+◌, ◌-◌, length, IfOk, OnOk, IfSome, IfNone, Option, Some, None, vec_len, take, Bool, true, false};
+ghost use Rattle.std.specs.Prelude.{◌≡◌, IfOk, IfSome, IfNone, Some, take, true, false};
 ghost use Rattle.argot_tree.specs.Grammar.{Names, Fields, Field, Elements, Element};
 ghost use Rattle.argot_tree.specs.declared.mark.Mark.TheVariants.{CloseBrace};
-ghost use Rattle.argot_spelling.specs.Reading.{The, Gives, closed, put, is_mark};
+ghost use Rattle.argot_spelling.specs.Reading.{The, Gives, is_mark};
 ghost use Rattle.argot_spelling.specs.TypeReader.{embedded_by, tag_by, named_field_by};
 ghost use Rattle.argot_spelling.specs.Reader.{read};
 

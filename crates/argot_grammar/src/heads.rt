@@ -1,11 +1,10 @@
 // Heads of statements, and `if`.
 #![tactic(auto, using(argot_spelling::proofs::Steps::read_more, argot_spelling::proofs::Steps::read_none, argot_spelling::proofs::Grows::kept))]
 
-ghost use Rattle.std.specs.Prelude.{◌≡◌, ◌<◌, ◌≤◌, ◌+◌, ◌-◌, ◌^◌, length, IfOk, OnOk, IfSome, IfNone, Option, Some, None, vec_len, take, reverse, [], ◌∷◌, IsTrue, Bool, true, false, if◌then◌else◌};
-ghost use Rattle.argot_spelling.specs.Reading.{The, Ifs, Gives, Settles, closed, put};
+ghost use Rattle.std.specs.Prelude.{◌≡◌, ◌≤◌, IfOk, OnOk, IfSome, IfNone, vec_len, take, [], true, false};
+ghost use Rattle.argot_spelling.specs.Reading.{Ifs, Gives, Settles};
 ghost use Rattle.argot_spelling.specs.StatementReader.{put_empty, listed_by, opened_by, opening_by, condition_behind_by, condition_by};
 ghost use Rattle.argot_spelling.specs.Reader.{read};
-ghost use Rattle.argot_tree.specs.Grammar.{Simple};
 ghost use Rattle.argot_tree.specs.TokensAt.{kind_at, is_semicolon};
 
 use crate::blocks::block;

@@ -1,11 +1,11 @@
 // `select` and `for`.
 #![tactic(auto, using(argot_spelling::proofs::Steps::read_more, argot_spelling::proofs::Steps::read_none, argot_spelling::proofs::Grows::kept))]
 
-ghost use Rattle.std.specs.Prelude.{◌≡◌, ◌<◌, ◌≤◌, ◌+◌, ◌-◌, ◌^◌, length, IfOk, OnOk, IfSome, IfNone, Option, Some, None, vec_len, take, reverse, [], ◌∷◌, IsTrue, Bool, true, false, if◌then◌else◌};
+ghost use Rattle.std.specs.Prelude.{◌≡◌, ◌<◌, ◌≤◌, length, IfOk, vec_len, if◌then◌else◌};
 ghost use Rattle.argot_tree.specs.declared.mark.Mark.TheVariants.{Assign};
 ghost use Rattle.argot_tree.specs.declared.node_kind.NodeKind.TheVariants.{AssignRange, DefineRange};
 ghost use Rattle.argot_tree.specs.Grammar.{Comms, Comm, MaybeCondition, MaybePost};
-ghost use Rattle.argot_spelling.specs.Reading.{The, Gives, Settles, closed, put, is_mark};
+ghost use Rattle.argot_spelling.specs.Reading.{The, Gives, Settles, is_mark};
 ghost use Rattle.argot_spelling.specs.StatementReader.{select_by, received_by, comm_behind_by, loop_by, parts_by, range_by, looped_by, for_by};
 ghost use Rattle.argot_spelling.specs.Reader.{read};
 
@@ -15,7 +15,7 @@ use crate::heads::{opening, put_empty};
 use crate::peek::{clause_at, is_mark, is_word, range_at, ranges, semicolon_at};
 use crate::statements::{more_expressions_behind, simple};
 use crate::switches::clause;
-use crate::writer::{Writer, close, expect, missing, put, undo};
+use crate::writer::{Writer, close, expect, missing, undo};
 use argot_text::Memory;
 use argot_tree::{Keyword, Mark, NodeKind, Token};
 

@@ -1,6 +1,6 @@
 // How deeply tokens are nested.
 ghost use Rattle.std.specs.Prelude.{◌≡◌, ◌<◌, ◌+◌, ◌-◌, ◌^◌, length, IfSome, IfNone, if◌then◌else◌};
-ghost use Rattle.argot_tree.specs.Nesting.{opens, closes, resets, counts, open_behind, counted_behind, IsTooDeep, IsShallow};
+ghost use Rattle.argot_tree.specs.Nesting.{opens, closes, resets, counts, IsTooDeep, IsShallow};
 
 use argot_tree::{Keyword, Mark, Token, TokenKind};
 

@@ -1,8 +1,8 @@
 // Operands.
 #![tactic(auto, using(argot_spelling::proofs::Steps::read_more, argot_spelling::proofs::Steps::read_none, argot_spelling::proofs::Grows::kept))]
 
-ghost use Rattle.std.specs.Prelude.{◌≡◌, ◌<◌, ◌≤◌, ◌+◌, ◌-◌, ◌^◌, length, IfOk, OnOk, IfSome, IfNone, IsTrue, Option, Some, None, vec_len, take, Bool, true, false};
-ghost use Rattle.argot_spelling.specs.Reading.{The, OperandOr, Gives, Settles, closed, put};
+ghost use Rattle.std.specs.Prelude.{◌≡◌, ◌<◌, ◌≤◌, ◌+◌, ◌^◌, length, IfOk, IsTrue, vec_len};
+ghost use Rattle.argot_spelling.specs.Reading.{OperandOr, Gives, Settles};
 ghost use Rattle.argot_spelling.specs.ExpressionReader.{is_open_array, name_use_by, name_by, parens_by, func_by, behind_signature_by, open_array_by, type_operand_by, behind_type_by, converted_by};
 ghost use Rattle.argot_spelling.specs.Reader.{read};
 

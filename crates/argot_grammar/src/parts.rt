@@ -1,5 +1,5 @@
 // The parts that are read by themselves.
-ghost use Rattle.std.specs.Prelude.{◌≡◌, ◌≤◌, length, IfOk, IfErr};
+ghost use Rattle.std.specs.Prelude.{◌≤◌, length, IfOk, IfErr};
 ghost use Rattle.argot_tree.specs.Grammar.{Level};
 ghost use Rattle.argot_tree.specs.Nesting.{IsShallow};
 ghost use Rattle.argot_tree.specs.Trees.{IsLongestPart};

@@ -1,11 +1,11 @@
 // What stands at a place among the tokens.
-ghost use Rattle.std.specs.Prelude.{◌≡◌, ◌<◌, ◌+◌, ◌&&◌, length, drop, IsTrue, IfSome, Some};
+ghost use Rattle.std.specs.Prelude.{◌≡◌, ◌<◌, ◌+◌, length, IsTrue, IfSome, Some};
 ghost use Rattle.argot_tree.specs.TokensAt.{kind_at, mark_level, level_at, unary_of, is_semicolon, is_literal, is_text, begins_type, begins_conversion, begins_composite, is_op_assign, follows_parameter, is_no_bracket};
 ghost use Rattle.argot_spelling.specs.StatementReader.{ends_stmt, ends_stmts, begins_clause, begins_assign, is_range, defines, ranges, guards, labels};
 ghost use Rattle.argot_spelling.specs.DeclarationReader.{is_generic};
 ghost use Rattle.argot_spelling.specs.FileReader.{opens_bracket};
 ghost use Rattle.argot_tree.specs.declared.token.TokenKind.TheVariants.{Name};
-ghost use Rattle.argot_spelling.specs.Reading.{word_number, mark_number, kind_number, is_kind, is_at, is_mark, is_word, behind_comma, goes_on, more_names, behind_names, names_then};
+ghost use Rattle.argot_spelling.specs.Reading.{word_number, mark_number, kind_number, is_at, is_mark, is_word, behind_comma, goes_on, behind_names, names_then};
 ghost use Rattle.argot_spelling.specs.TypeReader.{begins_parameter, is_dotted};
 
 use argot_tree::{Keyword, Mark, NodeKind, Token, TokenKind};
@@ -135,6 +135,7 @@ pub fn is_at(tokens: &[Token], at: usize, kind: TokenKind) -> bool
     }
 }
 
+/// Whether a name stands there.
 pub fn is_name(tokens: &[Token], at: usize) -> bool
     ensures value { result ≡ is_at tokens.now at Name }
     ensures within { IsTrue result → at < length tokens.now }
@@ -142,6 +143,7 @@ pub fn is_name(tokens: &[Token], at: usize) -> bool
     is_at(tokens, at, TokenKind::Name)
 }
 
+/// Whether this keyword stands there.
 pub fn is_word(tokens: &[Token], at: usize, word: Keyword) -> bool
     ensures value { result ≡ is_word tokens.now at word }
     ensures within { IsTrue result → at < length tokens.now }
@@ -149,6 +151,7 @@ pub fn is_word(tokens: &[Token], at: usize, word: Keyword) -> bool
     is_at(tokens, at, TokenKind::Word(word))
 }
 
+/// Whether this mark stands there.
 pub fn is_mark(tokens: &[Token], at: usize, mark: Mark) -> bool
     ensures value { result ≡ is_mark tokens.now at mark }
     ensures within { IsTrue result → at < length tokens.now }

@@ -1,9 +1,9 @@
 // Signatures and parameters.
 #![tactic(auto, using(argot_spelling::proofs::Steps::read_more, argot_spelling::proofs::Steps::read_none, argot_spelling::proofs::Grows::kept))]
 
-ghost use Rattle.std.specs.Prelude.{◌≡◌, ◌<◌, ◌≤◌, ◌+◌, ◌-◌, length, IfOk, OnOk, IfSome, IfNone, Option, Some, None, vec_len, take, Bool, true, false};
+ghost use Rattle.std.specs.Prelude.{◌<◌, length, IfOk};
 ghost use Rattle.argot_tree.specs.Grammar.{Signature, Params, Types, NamedList};
-ghost use Rattle.argot_spelling.specs.Reading.{The, Gives, closed, put};
+ghost use Rattle.argot_spelling.specs.Reading.{The, Gives};
 ghost use Rattle.argot_spelling.specs.TypeReader.{result_by, listed_by};
 ghost use Rattle.argot_spelling.specs.Reader.{read};
 

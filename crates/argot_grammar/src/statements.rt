@@ -1,10 +1,10 @@
 // Statements.
 #![tactic(auto, using(argot_spelling::proofs::Steps::read_more, argot_spelling::proofs::Steps::read_none, argot_spelling::proofs::Grows::kept))]
 
-ghost use Rattle.std.specs.Prelude.{◌≡◌, ◌<◌, ◌≤◌, ◌+◌, ◌-◌, ◌^◌, length, IfOk, OnOk, IfSome, IfNone, Option, Some, None, vec_len, take, reverse, [], ◌∷◌, IsTrue, Bool, true, false, if◌then◌else◌};
+ghost use Rattle.std.specs.Prelude.{◌<◌, ◌≤◌, length, IfOk, Some, vec_len};
 ghost use Rattle.argot_tree.specs.declared.token.TokenKind.TheVariants as kinds;
 ghost use Rattle.argot_tree.specs.Grammar.{Stmt, Simple};
-ghost use Rattle.argot_spelling.specs.Reading.{The, Gives, Settles, closed, put};
+ghost use Rattle.argot_spelling.specs.Reading.{The, Gives, Settles};
 ghost use Rattle.argot_spelling.specs.StatementReader.{stmt_by, decl_stmt_by, keyword_by, jump_by, return_by, goto_by, exprs_node_by, more_by, assigned_by, assign_by, simple_behind_by, define_by};
 ghost use Rattle.argot_spelling.specs.Reader.{read};
 
@@ -19,7 +19,7 @@ use crate::peek::{
     assign_at, defines, ends_stmt_at, is_label, is_mark, is_name, kind_at, op_assign_at,
 };
 use crate::switches::switch_stmt;
-use crate::writer::{Writer, close, expect, missing, put, undo};
+use crate::writer::{Writer, close, missing, put, undo};
 use argot_text::Memory;
 use argot_tree::{Keyword, Mark, NodeKind, Token, TokenKind};
 

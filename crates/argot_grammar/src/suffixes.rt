@@ -1,9 +1,9 @@
 // What goes on behind an operand: selectors, indexes, slices, type assertions and calls.
 #![tactic(auto, using(argot_spelling::proofs::Steps::read_more, argot_spelling::proofs::Steps::read_none, argot_spelling::proofs::Grows::kept))]
 
-ghost use Rattle.std.specs.Prelude.{◌≡◌, ◌<◌, ◌≤◌, ◌+◌, ◌-◌, length, IfOk, OnOk, IfSome, IfNone, Option, Some, None, vec_len, take, Bool, true, false};
+ghost use Rattle.std.specs.Prelude.{◌≡◌, ◌<◌, ◌≤◌, ◌+◌, length, IfOk, Some, vec_len};
 ghost use Rattle.argot_tree.specs.declared.node_kind.NodeKind.TheVariants as nodes;
-ghost use Rattle.argot_spelling.specs.Reading.{The, Suffixes, Gives, Settles, closed, put};
+ghost use Rattle.argot_spelling.specs.Reading.{Suffixes, Gives, Settles};
 ghost use Rattle.argot_spelling.specs.ExpressionReader.{suffix_by, dot_by, bracket_by, bracket_end, third_by, second_by, from_start_by, behind_first_by, call_by, arguments_by};
 ghost use Rattle.argot_spelling.specs.Reader.{read};
 

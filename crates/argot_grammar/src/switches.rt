@@ -1,10 +1,10 @@
 // Switches.
 #![tactic(auto, using(argot_spelling::proofs::Steps::read_more, argot_spelling::proofs::Steps::read_none, argot_spelling::proofs::Grows::kept))]
 
-ghost use Rattle.std.specs.Prelude.{◌≡◌, ◌<◌, ◌≤◌, ◌+◌, ◌-◌, ◌^◌, length, IfOk, OnOk, IfSome, IfNone, Option, Some, None, vec_len, take, reverse, [], ◌∷◌, IsTrue, Bool, true, false, if◌then◌else◌};
+ghost use Rattle.std.specs.Prelude.{◌≡◌, ◌<◌, ◌≤◌, ◌+◌, length, IfOk, vec_len};
 ghost use Rattle.argot_tree.specs.Grammar.{Cases, Case};
-ghost use Rattle.argot_spelling.specs.Reading.{The, Gives, Settles, closed, put};
-ghost use Rattle.argot_spelling.specs.StatementReader.{is_operation, is_primary, switched_by, tagged_by, named_guard_by, tag_by, init_by, defined_by, opened_switch_by, head_by, switch_by, clause_by, case_by};
+ghost use Rattle.argot_spelling.specs.Reading.{The, Gives, Settles};
+ghost use Rattle.argot_spelling.specs.StatementReader.{is_operation, is_primary, switched_by, tagged_by, named_guard_by, tag_by, init_by, defined_by, opened_switch_by, head_by, switch_by, clause_by};
 ghost use Rattle.argot_spelling.specs.Reader.{read};
 
 use crate::blocks::stmts;

@@ -1,9 +1,9 @@
 // Types.
 #![tactic(auto, using(argot_spelling::proofs::Steps::read_more, argot_spelling::proofs::Steps::read_none, argot_spelling::proofs::Grows::kept))]
 
-ghost use Rattle.std.specs.Prelude.{◌≡◌, ◌<◌, ◌≤◌, ◌+◌, ◌-◌, length, IfOk, OnOk, Option, Some, None, vec_len, take, Bool, true, false};
+ghost use Rattle.std.specs.Prelude.{◌≡◌, ◌<◌, length, IfOk, Some};
 ghost use Rattle.argot_tree.specs.Grammar.{AnyType, OnlyType};
-ghost use Rattle.argot_spelling.specs.Reading.{The, Gives, closed, put};
+ghost use Rattle.argot_spelling.specs.Reading.{The, Gives};
 ghost use Rattle.argot_spelling.specs.TypeReader.{named_type_by, type_parens_by, array_by, bracketed_by, map_by, chan_by, receive_by, func_type_by, struct_by, interface_by};
 ghost use Rattle.argot_spelling.specs.Reader.{read};
 

@@ -1,5 +1,5 @@
 // The nodes that are written behind their children.
-ghost use Rattle.std.specs.Prelude.{◌≡◌, ◌≤◌, ◌+◌, length, vec_len, take, reverse, IfOk, OnOk, IfSome, IfNone, Option, Some, None, Bool, true, false, IsTrue};
+ghost use Rattle.std.specs.Prelude.{◌≡◌, ◌+◌, take, reverse, IfOk, OnOk, IfSome, IfNone, true, false};
 ghost use Rattle.argot_tree.specs.Forests.{last_token};
 ghost use Rattle.argot_spelling.specs.Reading.{closed, closed_all, put, is_mark, behind_comma};
 
@@ -12,8 +12,11 @@ use std::alloc::Global;
 /// The nodes so far, and the furthest token at which one that is needed was missing.
 #[derive(Drop)]
 pub struct Writer {
+    /// Where memory comes from.
     pub alloc: Global,
+    /// The nodes, each behind its children.
     pub posts: Vec<Post>,
+    /// The furthest token at which a needed one was missing.
     pub furthest: usize,
 }
 
