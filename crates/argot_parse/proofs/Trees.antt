@@ -1,9 +1,9 @@
 -- What reading a file tells of its trees.
-use Rattle.std.proofs.Common.{◌≡◌, ℕ, ◌+◌, ◌*◌, ◌≤◌, List, [], ◌++◌, length, Option, Some, None, sym, ap, ◌∙◌, subst, arith}
+use Rattle.std.proofs.Common.{◌≡◌, ℕ, ◌+◌, ◌*◌, ◌≤◌, List, [], ◌++◌, length, Some, None, sym, ap, ◌∙◌, subst}
 use Rattle.argot_tree.specs.declared.token.Token.{Token}
 use Rattle.argot_tree.specs.declared.tree.TreeNode.{TreeNode}
 use Rattle.argot_tree.specs.Forests.{Forest, nodes_from}
-use Rattle.argot_tree.specs.Trees.{SpellsNodes, SpellsTree}
+use Rattle.argot_tree.specs.Trees.{SpellsNodes}
 use Rattle.argot_tree.specs.Grammar.{File, Spells}
 use Rattle.argot_spelling.specs.declared.post.Post.{Post}
 use Rattle.argot_spelling.specs.Posts.{posts}

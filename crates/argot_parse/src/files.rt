@@ -109,12 +109,7 @@ fn tops(
     Ok(None)
 }
 
-fn top(
-    tokens: &[Token],
-    out: &mut Writer,
-    fuel: usize,
-    at: usize,
-) -> Result<Option<usize>, Memory>
+fn top(tokens: &[Token], out: &mut Writer, fuel: usize, at: usize) -> Result<Option<usize>, Memory>
     ensures { IfOk result (λ r. Gives out.old.posts.items r out.new.posts.items (read tokens.now fuel (The Top) at out.old.posts.items)) }
 {
     if fuel == 0 {

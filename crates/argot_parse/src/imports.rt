@@ -111,12 +111,7 @@ fn specs(
 }
 
 // A path, with a point or a name before it or alone.
-fn spec(
-    tokens: &[Token],
-    out: &mut Writer,
-    fuel: usize,
-    at: usize,
-) -> Result<Option<usize>, Memory>
+fn spec(tokens: &[Token], out: &mut Writer, fuel: usize, at: usize) -> Result<Option<usize>, Memory>
     ensures { IfOk result (λ r. Gives out.old.posts.items r out.new.posts.items (read tokens.now fuel (The Spec) at out.old.posts.items)) }
 {
     if fuel == 0 {

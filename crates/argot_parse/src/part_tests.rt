@@ -1,7 +1,7 @@
 // What argot_grammar has that `parse` doesn't show: links of a small tree, the bound on nesting, and parts by themselves.
 ghost use Rattle.std.specs.Prelude.{◌<◌, ◌^◌, length};
 
-use argot_grammar::{Part, ParseFault, expression, first_too_deep, link, part};
+use argot_grammar::{ParseFault, Part, expression, first_too_deep, link, part};
 use argot_lex::lex;
 use argot_spelling::Post;
 use argot_tree::{Keyword, Mark, NodeKind, Token, TokenKind, Tree, TreeNode};
@@ -145,15 +145,29 @@ fn the_longest_part_is_read(rt: HostRuntime) -> Result<(), Fail> {
         (")", true, None, "none at 0"),
         ("[]int{1}", true, Some(Part::Kinds), "3 2 SliceType"),
         ("chan<- <-chan int", true, Some(Part::Kinds), "5 3 SendType"),
-        ("(a, b int, c ...string) x", true, Some(Part::Params), "10 9 NamedParams"),
-        ("(int) (b, c string) {", true, Some(Part::Sig), "9 10 Signature"),
+        (
+            "(a, b int, c ...string) x",
+            true,
+            Some(Part::Params),
+            "10 9 NamedParams",
+        ),
+        (
+            "(int) (b, c string) {",
+            true,
+            Some(Part::Sig),
+            "9 10 Signature",
+        ),
         ("var x = 1, 2, )", true, Some(Part::Decl), "6 7 VarDecl"),
         ("{ x := 1; return } y", true, Some(Part::Block), "7 7 Block"),
         ("x", true, Some(Part::Block), "none at 0"),
     ];
     for (text, bare, what, want) in cases {
         assert!(rt; text.len() < 1000);
-        assert_eq!(rt; read(rt.alloc(), text.as_bytes(), bare, what)?.as_str(), want, "at {text}");
+        assert_eq!(rt;
+            read(rt.alloc(), text.as_bytes(), bare, what)?.as_str(),
+            want,
+            "at {text}"
+        );
     }
     Ok(())
 }

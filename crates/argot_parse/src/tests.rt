@@ -583,7 +583,11 @@ fn small_files_have_a_tree_or_a_fault(rt: HostRuntime) -> Result<(), Fail> {
         file.push_str(text)?;
         file.push_str(behind)?;
         assert!(rt; file.len() < 1000);
-        assert_eq!(rt; shown(rt.alloc(), file.as_bytes())?.as_str(), want, "at {text}");
+        assert_eq!(rt;
+            shown(rt.alloc(), file.as_bytes())?.as_str(),
+            want,
+            "at {text}"
+        );
     }
     Ok(())
 }
@@ -641,7 +645,11 @@ fn each_stub_has_a_tree(rt: HostRuntime) -> Result<(), Fail> {
             continue;
         };
         assert!(rt; text.len() < 100_000);
-        assert_eq!(rt; shown(rt.alloc(), text.as_bytes())?.as_str(), "ok", "the stub of {path}");
+        assert_eq!(rt;
+            shown(rt.alloc(), text.as_bytes())?.as_str(),
+            "ok",
+            "the stub of {path}"
+        );
     }
     Ok(())
 }
