@@ -653,3 +653,49 @@ fn each_stub_has_a_tree(rt: HostRuntime) -> Result<(), Fail> {
     }
     Ok(())
 }
+
+// Files in which braces follow a type's bare name, in the head of an `if` and in parentheses there.
+static HEADS: [(&str, &str); 2] = [
+    (
+        "package main\ntype T struct{ a int }\nfunc main() {\n\tx := T{1}\n\tif x == T{1} {\n\t}\n}\n",
+        "30",
+    ),
+    (
+        "package main\ntype T struct{ a int }\nfunc main() {\n\tx := T{1}\n\tif x == (T{1}) {\n\t}\n}\n",
+        "ok",
+    ),
+];
+
+#[test]
+fn braces_in_heads_are_those_of_the_body(rt: HostRuntime) -> Result<(), Fail> {
+    for (text, want) in HEADS {
+        assert!(rt; text.len() < 1000);
+        assert_eq!(rt; shown(rt.alloc(), text.as_bytes())?.as_str(), want);
+    }
+    Ok(())
+}
+
+// An expression in so many parentheses.
+fn nested(alloc: Global, count: usize) -> Result<String, Fail> {
+    let mut file = String::new(alloc);
+    file.push_str("package main\nvar x = ")?;
+    for _ in 0..count {
+        file.push_str("(")?;
+    }
+    file.push_str("1")?;
+    for _ in 0..count {
+        file.push_str(")")?;
+    }
+    file.push_str("\nfunc main() {}\n")?;
+    Ok(file)
+}
+
+#[test]
+fn files_are_read_to_the_depth_that_is_allowed(rt: HostRuntime) -> Result<(), Fail> {
+    for (count, want) in [(200, "ok"), (201, "deep 207")] {
+        let file = nested(rt.alloc(), count)?;
+        assert!(rt; file.len() < 1000);
+        assert_eq!(rt; shown(rt.alloc(), file.as_bytes())?.as_str(), want);
+    }
+    Ok(())
+}
