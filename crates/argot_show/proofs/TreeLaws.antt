@@ -85,7 +85,7 @@ module _ (bytes : List ℕ) (tokens : List Token) where
       let next = around_by node.first node.next around in
       let tail = nodes_onto [] bytes tokens next rest in
       let same : node_onto (indent_onto waiting stored) bytes tokens node.kind node.token node.last ≡ waiting ++ line =
-          ap (λ l. node_onto l bytes tokens node.kind node.token node.last) (indent_long waiting stored around (sym (length-reverse stored))) ∙ node_is waiting around node in
+      ap (λ l. node_onto l bytes tokens node.kind node.token node.last) (indent_long waiting stored around (sym (length-reverse stored))) ∙ node_is waiting around node in
       ap (λ l. taken_with (taken_with taken l) tail) same
       ∙ ap (λ t. taken_with t tail) (sym (taken_twice taken waiting line))
       ∙ taken_twice (taken_with taken waiting) line tail

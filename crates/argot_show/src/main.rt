@@ -57,7 +57,10 @@ fn show<F: Files, O: Sink, E: Sink>(
                 Stage::Tree => show_tree(alloc, path, request.count, files, out, err),
             }
         }
-        None => match write_all(err, b"argot_show: usage: argot_show tokens|tree [-count] FILE\n") {
+        None => match write_all(
+            err,
+            b"argot_show: usage: argot_show tokens|tree [-count] FILE\n",
+        ) {
             Ok(()) => Status::Refused,
             Err(_) => Status::WriteFault,
         },
