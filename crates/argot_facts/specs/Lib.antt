@@ -12,3 +12,5 @@ pub mod Origins
 pub mod Summaries
 pub mod Parents
 pub mod Traces
+pub mod Numbers
+pub mod Exact

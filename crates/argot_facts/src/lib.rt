@@ -6,6 +6,7 @@
 
 mod findings;
 mod graphs;
+pub mod laws;
 mod nodes;
 mod pointing;
 mod sharing;

@@ -1,0 +1,6 @@
+use Rattle.std.proofs.Common.{◌≡◌, ◌++◌, drop}
+use Rattle.argot_points_rules.specs.Column.{return_leaves}
+use Rattle.argot_points_rules.proofs.column.push_return_leaves.Given as goal
+
+abbrev pub invariant-loop-a : goal.invariant-loop-a
+invariant-loop-a l = l.rules.items ++ return_leaves l.function l.place l.by l.index l.a (drop l.a l.leaves) ≡ l.fn.rules.items ++ return_leaves l.function l.place l.by l.index 0 l.leaves
