@@ -1,2 +1,4 @@
 pub mod LinkLaws
 pub mod NestingLaws
+pub mod NameLaws
+pub mod FrontLaws

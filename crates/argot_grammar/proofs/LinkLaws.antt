@@ -5,9 +5,9 @@ use Rattle.std.proofs.lemmas.Grind.{reverse_onto}
 use Rattle.std.proofs.lemmas.Bool.{ne_eqb}
 use Rattle.argot_tree.specs.declared.tree.TreeNode.{TreeNode}
 use Rattle.argot_tree.specs.Forests.{Forest, leaf, tree, size, begins, nodes_from}
-use Rattle.argot_grammar.specs.declared.post.Post.{Post}
-use Rattle.argot_grammar.specs.declared.post.Pending.{Pending}
-use Rattle.argot_grammar.specs.Posts.{posts}
+use Rattle.argot_spelling.specs.declared.post.Post.{Post}
+use Rattle.argot_grammar.specs.declared.pending.Pending.{Pending}
+use Rattle.argot_spelling.specs.Posts.{posts}
 use Rattle.argot_grammar.specs.Links.{Linking, settle, linked}
 
 -- there are as many as the trees have nodes

@@ -1,3 +1,3 @@
-pub mod Posts
 pub mod Links
 pub mod Linker
+pub mod Sorts

@@ -1,8 +1,8 @@
 -- How nodes behind their children become nodes before them, from right to left.
 use Rattle.std.specs.Prelude.{ℕ, ◌-◌, List, [], ◌∷◌, Some, None, ◌==◌, if◌then◌else◌}
 use Rattle.argot_tree.specs.declared.tree.TreeNode.{TreeNode}
-use Rattle.argot_grammar.specs.declared.post.Post.{Post}
-use Rattle.argot_grammar.specs.declared.post.Pending.{Pending}
+use Rattle.argot_spelling.specs.declared.post.Post.{Post}
+use Rattle.argot_grammar.specs.declared.pending.Pending.{Pending}
 
 -- the node of what is pending, once all its children are there
 abbrev pub node_of : Pending → TreeNode

@@ -5,13 +5,30 @@
 //! first token that is nested deeper than the parser goes. Both are one pass over a list.
 #![tactic(auto)]
 
+mod arrows;
+mod blocks;
+mod declarations;
+mod elements;
+mod expressions;
+mod fault;
+mod fields;
+mod heads;
 mod linking;
+mod loops;
 mod nesting;
-mod post;
+mod operands;
+mod peek;
+mod pending;
+mod signatures;
+mod statements;
+mod suffixes;
+mod switches;
+mod types;
+mod writer;
 
+pub use fault::ParseFault;
 pub use linking::link;
 pub use nesting::first_too_deep;
-pub use post::Post;
 
 #[cfg(test)]
 mod tests;

@@ -1,11 +1,13 @@
 // From nodes behind their children to nodes before them, with links, from right to left.
 ghost use Rattle.std.specs.Prelude.{◌≡◌, reverse, IfOk, OnOk};
 ghost use Rattle.argot_tree.specs.Forests.{Forest, nodes_from};
-ghost use Rattle.argot_grammar.specs.Posts.{posts};
+ghost use Rattle.argot_spelling.specs.Posts.{posts};
 ghost use Rattle.argot_grammar.specs.Links.{node_of, settle, take_post};
 ghost use Rattle.argot_grammar.specs.Linker.{seen};
 
-use crate::post::{Pending, Post};
+use crate::pending::Pending;
+use crate::writer::narrow;
+use argot_spelling::Post;
 use argot_text::Memory;
 use argot_tree::{NodeKind, TreeNode};
 use std::alloc::Global;
@@ -69,16 +71,6 @@ fn take_post(linker: &mut Linker, post: Post) -> Result<(), Memory>
         child: None,
     };
     settle(linker)
-}
-
-// More nodes than a number counts have no room.
-fn narrow(n: usize) -> Result<u32, Memory>
-    ensures { IfOk result (λ x. x ≡ n) }
-{
-    match u32::try_from(n) {
-        Ok(x) => Ok(x),
-        Err(_) => Err(Memory),
-    }
 }
 
 /// The nodes of trees side by side in preorder, with their links.

@@ -1,5 +1,6 @@
 // Links of a small tree, and the bound on nesting.
-use crate::{Post, first_too_deep, link};
+use crate::{first_too_deep, link};
+use argot_spelling::Post;
 use argot_tree::{Keyword, Mark, NodeKind, Token, TokenKind, TreeNode};
 use std::test::Fail;
 

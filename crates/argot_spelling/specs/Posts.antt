@@ -1,7 +1,7 @@
 -- The nodes of trees, each behind its children.
 use Rattle.std.specs.Prelude.{◌+◌, List, [], ◌∷◌, ◌++◌}
 use Rattle.argot_tree.specs.Forests.{Forest, leaf, tree, size}
-use Rattle.argot_grammar.specs.declared.post.Post.{Post}
+use Rattle.argot_spelling.specs.declared.post.Post.{Post}
 
 abbrev pub posts : Forest → List Post
 posts leaf = []

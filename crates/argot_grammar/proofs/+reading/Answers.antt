@@ -1,0 +1,258 @@
+use Rattle.std.proofs.Common.{◌≡◌, take, arith}
+use Rattle.std.proofs.lemmas.Grind.{common_steps}
+use Rattle.argot_spelling.proofs.Steps.{read_more}
+use Rattle.argot_grammar.proofs.FrontLaws.{through}
+use Rattle.argot_spelling.proofs.Grows.{kept, kept_more, kept_opening, kept_condition, kept_assign, kept_simple, kept_named, kept_embedded, kept_tag, kept_result}
+use Rattle.argot_grammar.proofs.+reading.Goals as goal
+
+pub elements::items-loop-fuel-preserved : goal.elements::items-loop-fuel-preserved
+elements::items-loop-fuel-preserved t c = record {
+  reads = grind (arith, common_steps, read_more);
+  kept = grind (arith, common_steps, kept);
+  fewer = omega arith;
+}
+
+pub expressions::eithers-loop-fuel-preserved : goal.expressions::eithers-loop-fuel-preserved
+expressions::eithers-loop-fuel-preserved t c = record {
+  reads = grind (arith, common_steps, read_more);
+  kept = grind (arith, common_steps, kept);
+  fewer = omega arith;
+}
+
+pub fields::elements-loop-fuel-preserved : goal.fields::elements-loop-fuel-preserved
+fields::elements-loop-fuel-preserved t c = record {
+  reads = grind (arith, common_steps, read_more);
+  kept = grind (arith, common_steps, kept);
+  fewer = omega arith;
+}
+
+pub fields::fields-loop-fuel-preserved : goal.fields::fields-loop-fuel-preserved
+fields::fields-loop-fuel-preserved t c = record {
+  reads = grind (arith, common_steps, read_more);
+  kept = grind (arith, common_steps, kept);
+  fewer = omega arith;
+}
+
+pub signatures::types-loop-fuel-preserved : goal.signatures::types-loop-fuel-preserved
+signatures::types-loop-fuel-preserved t c = record {
+  reads = grind (arith, common_steps, read_more);
+  kept = grind (arith, common_steps, kept);
+  fewer = omega arith;
+}
+
+pub signatures::named_params-loop-fuel-preserved : goal.signatures::named_params-loop-fuel-preserved
+signatures::named_params-loop-fuel-preserved t c = record {
+  reads = grind (arith, common_steps, read_more);
+  kept =
+      let m = c.len-mark.result in
+      let named = c.put.new.out.posts.items in
+      let typed = c.any_type-in-loop-fuel.new.out.posts.items in
+      let front : take m named ≡ c.args.out.now.posts.items = grind (arith, common_steps) in
+      let shown : take m typed ≡ c.args.out.now.posts.items = through m c.args.out.now.posts.items named typed (grind (arith, common_steps)) (grind (arith, common_steps, kept)) front in
+      through m c.args.out.now.posts.items typed c.close-in-loop-fuel.new.out.posts.items (grind (arith, common_steps, kept)) (grind (arith, common_steps)) shown;
+  fewer = omega arith;
+}
+
+pub signatures::named_params-loop-fuel-preserved-then-is_mark : goal.signatures::named_params-loop-fuel-preserved-then-is_mark
+signatures::named_params-loop-fuel-preserved-then-is_mark t c = record {
+  reads = grind (arith, common_steps, read_more);
+  kept = grind (arith, common_steps, kept);
+  fewer = omega arith;
+}
+
+pub expressions::climb-loop-fuel-preserved : goal.expressions::climb-loop-fuel-preserved
+expressions::climb-loop-fuel-preserved t c = record {
+  reads = grind (arith, common_steps, read_more);
+  fewer = omega arith;
+}
+
+pub fields::element-returns-in_default : goal.fields::element-returns-in_default
+fields::element-returns-in_default t c = grind (arith, common_steps, read_more, kept)
+
+pub fields::elements-returns-then-not-semicolon_at : goal.fields::elements-returns-then-not-semicolon_at
+fields::elements-returns-then-not-semicolon_at t c = grind (arith, common_steps, read_more, kept)
+
+pub fields::fields-returns-then-not-semicolon_at : goal.fields::fields-returns-then-not-semicolon_at
+fields::fields-returns-then-not-semicolon_at t c = grind (arith, common_steps, read_more, kept)
+
+pub fields::named_field-returns-in_default-2 : goal.fields::named_field-returns-in_default-2
+fields::named_field-returns-in_default-2 t c = grind (arith, common_steps, kept)
+
+pub operands::open_array-returns-in_default-2 : goal.operands::open_array-returns-in_default-2
+operands::open_array-returns-in_default-2 t c = grind (arith, common_steps, kept)
+
+pub signatures::named_params-returns-in_default : goal.signatures::named_params-returns-in_default
+signatures::named_params-returns-in_default t c = grind (arith, common_steps, read_more, kept)
+
+pub signatures::named_params-returns-in_default-2 : goal.signatures::named_params-returns-in_default-2
+signatures::named_params-returns-in_default-2 t c = grind (arith, common_steps, read_more, kept)
+
+pub blocks::stmts-loop-fuel-preserved : goal.blocks::stmts-loop-fuel-preserved
+blocks::stmts-loop-fuel-preserved t c = record {
+  reads = grind (arith, common_steps, read_more);
+  kept = grind (arith, common_steps, kept);
+  fewer = omega arith;
+}
+
+pub switches::cases-loop-fuel-preserved : goal.switches::cases-loop-fuel-preserved
+switches::cases-loop-fuel-preserved t c = record {
+  reads = grind (arith, common_steps, read_more);
+  kept = grind (arith, common_steps, kept);
+  fewer = omega arith;
+}
+
+pub loops::comms-loop-fuel-preserved : goal.loops::comms-loop-fuel-preserved
+loops::comms-loop-fuel-preserved t c = record {
+  reads = grind (arith, common_steps, read_more);
+  kept = grind (arith, common_steps, kept);
+  fewer = omega arith;
+}
+
+pub declarations::declared_list-loop-fuel-preserved : goal.declarations::declared_list-loop-fuel-preserved
+declarations::declared_list-loop-fuel-preserved t c = record {
+  reads = grind (arith, common_steps, read_more);
+  kept = grind (arith, common_steps, kept);
+  fewer = omega arith;
+}
+
+pub blocks::stmts-loop-fuel-preserved-then-semicolon_at : goal.blocks::stmts-loop-fuel-preserved-then-semicolon_at
+blocks::stmts-loop-fuel-preserved-then-semicolon_at t c = record {
+  reads = grind (arith, common_steps, read_more);
+  kept = grind (arith, common_steps, kept);
+  fewer = omega arith;
+}
+
+pub blocks::stmts-returns-then-not-semicolon_at : goal.blocks::stmts-returns-then-not-semicolon_at
+blocks::stmts-returns-then-not-semicolon_at t c = grind (arith, common_steps, read_more, kept)
+
+pub declarations::declared_list-returns-then-not-semicolon_at : goal.declarations::declared_list-returns-then-not-semicolon_at
+declarations::declared_list-returns-then-not-semicolon_at t c = grind (arith, common_steps, read_more, kept)
+
+pub declarations::type_spec-returns : goal.declarations::type_spec-returns
+declarations::type_spec-returns t c = grind (arith, common_steps, kept)
+
+pub declarations::type_spec-named_type-requires-2 : goal.declarations::type_spec-named_type-requires-2
+declarations::type_spec-named_type-requires-2 t c = grind (arith, common_steps, kept)
+
+pub declarations::variables-returns-in_default-3 : goal.declarations::variables-returns-in_default-3
+declarations::variables-returns-in_default-3 t c = grind (arith, common_steps, kept)
+
+pub declarations::variables-returns-in_default-2 : goal.declarations::variables-returns-in_default-2
+declarations::variables-returns-in_default-2 t c = grind (arith, common_steps, kept)
+
+pub heads::condition-returns : goal.heads::condition-returns
+heads::condition-returns t c = grind (arith, common_steps, kept_opening)
+
+pub heads::condition-condition_behind-requires : goal.heads::condition-condition_behind-requires
+heads::condition-condition_behind-requires t c = grind (arith, common_steps, kept_opening)
+
+pub heads::ifs-returns-in_default-2 : goal.heads::ifs-returns-in_default-2
+heads::ifs-returns-in_default-2 t c = grind (arith, common_steps, read_more, kept, kept_condition)
+
+pub heads::ifs-returns-in_default-3 : goal.heads::ifs-returns-in_default-3
+heads::ifs-returns-in_default-3 t c = grind (arith, common_steps, read_more, kept, kept_condition)
+
+pub heads::ifs-returns-then-not-is_word-2 : goal.heads::ifs-returns-then-not-is_word-2
+heads::ifs-returns-then-not-is_word-2 t c = grind (arith, common_steps, read_more)
+
+pub heads::ifs-returns-in-loop-fuel : goal.heads::ifs-returns-in-loop-fuel
+heads::ifs-returns-in-loop-fuel t c = grind (arith, common_steps, read_more)
+
+pub heads::listed-returns : goal.heads::listed-returns
+heads::listed-returns t c = grind (arith, common_steps, kept_assign)
+
+pub heads::opened-returns : goal.heads::opened-returns
+heads::opened-returns t c = grind (arith, common_steps, kept_simple)
+
+pub heads::opened-returns-then-assign_at : goal.heads::opened-returns-then-assign_at
+heads::opened-returns-then-assign_at t c = grind (arith, common_steps, kept_more)
+
+pub loops::received-clause-requires : goal.loops::received-clause-requires
+loops::received-clause-requires t c = grind (arith, common_steps, kept)
+
+pub loops::received-clause-requires-2 : goal.loops::received-clause-requires-2
+loops::received-clause-requires-2 t c = grind (arith, common_steps, kept)
+
+pub loops::received-returns : goal.loops::received-returns
+loops::received-returns t c = grind (arith, common_steps, kept)
+
+pub loops::received-returns-then-is_mark : goal.loops::received-returns-then-is_mark
+loops::received-returns-then-is_mark t c = grind (arith, common_steps, kept)
+
+pub loops::comm_behind-returns : goal.loops::comm_behind-returns
+loops::comm_behind-returns t c = grind (arith, common_steps, kept_more)
+
+pub loops::comm_behind-returns-then-is_mark : goal.loops::comm_behind-returns-then-is_mark
+loops::comm_behind-returns-then-is_mark t c = grind (arith, common_steps, kept)
+
+pub loops::for_parts-returns : goal.loops::for_parts-returns
+loops::for_parts-returns t c = grind (arith, common_steps, kept)
+
+pub loops::for_parts-returns-then-not-semicolon_at : goal.loops::for_parts-returns-then-not-semicolon_at
+loops::for_parts-returns-then-not-semicolon_at t c = grind (arith, common_steps, kept)
+
+pub loops::for_parts-returns-in_default-2 : goal.loops::for_parts-returns-in_default-2
+loops::for_parts-returns-in_default-2 t c = grind (arith, common_steps, kept)
+
+pub loops::range-returns : goal.loops::range-returns
+loops::range-returns t c = grind (arith, common_steps, kept)
+
+pub loops::for_stmt-returns : goal.loops::for_stmt-returns
+loops::for_stmt-returns t c = grind (arith, common_steps, kept_opening)
+
+pub loops::for_stmt-looped-requires : goal.loops::for_stmt-looped-requires
+loops::for_stmt-looped-requires t c = grind (arith, common_steps, kept_opening)
+
+pub statements::simple_behind-returns : goal.statements::simple_behind-returns
+statements::simple_behind-returns t c = grind (arith, common_steps, kept_more)
+
+pub statements::define-returns-then-not-is_mark : goal.statements::define-returns-then-not-is_mark
+statements::define-returns-then-not-is_mark t c = grind (arith, common_steps, kept)
+
+pub statements::define-returns-in_default-2 : goal.statements::define-returns-in_default-2
+statements::define-returns-in_default-2 t c = grind (arith, common_steps, kept)
+
+pub suffixes::third-returns : goal.suffixes::third-returns
+suffixes::third-returns t c = grind (arith, common_steps, kept)
+
+pub suffixes::behind_first-returns : goal.suffixes::behind_first-returns
+suffixes::behind_first-returns t c = grind (arith, common_steps, kept)
+
+pub switches::switch_tag-returns : goal.switches::switch_tag-returns
+switches::switch_tag-returns t c = grind (arith, common_steps, kept)
+
+pub switches::switch_tag-named_guard-requires : goal.switches::switch_tag-named_guard-requires
+switches::switch_tag-named_guard-requires t c = grind (arith, common_steps, kept)
+
+pub switches::switch_tag-returns-then-is_mark-2 : goal.switches::switch_tag-returns-then-is_mark-2
+switches::switch_tag-returns-then-is_mark-2 t c = grind (arith, common_steps, kept)
+
+pub switches::defined-returns : goal.switches::defined-returns
+switches::defined-returns t c = grind (arith, common_steps, kept_more)
+
+pub switches::defined-after_init-requires : goal.switches::defined-after_init-requires
+switches::defined-after_init-requires t c = grind (arith, common_steps, kept_more)
+
+pub switches::switch_head-returns : goal.switches::switch_head-returns
+switches::switch_head-returns t c = grind (arith, common_steps, kept_opening)
+
+pub switches::switch_head-opened_switch-requires : goal.switches::switch_head-opened_switch-requires
+switches::switch_head-opened_switch-requires t c = grind (arith, common_steps, kept_opening)
+
+pub switches::switch_head-defined-requires : goal.switches::switch_head-defined-requires
+switches::switch_head-defined-requires t c = grind (arith, common_steps, kept)
+
+pub switches::switch_head-returns-then-is_mark-2 : goal.switches::switch_head-returns-then-is_mark-2
+switches::switch_head-returns-then-is_mark-2 t c = grind (arith, common_steps, kept)
+
+pub switches::case-clause-requires : goal.switches::case-clause-requires
+switches::case-clause-requires t c = grind (arith, common_steps, kept)
+
+pub switches::case-returns-then-is_word : goal.switches::case-returns-then-is_word
+switches::case-returns-then-is_word t c = grind (arith, common_steps, read_more, kept)
+
+pub switches::switched-returns-in_default-expect : goal.switches::switched-returns-in_default-expect
+switches::switched-returns-in_default-expect t c = grind (arith, common_steps, kept)
+
+pub declarations::variables-returns-in_default-4 : goal.declarations::variables-returns-in_default-4
+declarations::variables-returns-in_default-4 t c = grind (arith, common_steps, kept)

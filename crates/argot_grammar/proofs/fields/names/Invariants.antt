@@ -1,0 +1,14 @@
+use Rattle.std.proofs.Common.{◌≡◌, take}
+use Rattle.argot_tree.specs.Grammar.{Names}
+use Rattle.argot_spelling.specs.Reading.{The}
+use Rattle.argot_spelling.specs.Reader.{read}
+use Rattle.argot_grammar.proofs.fields.names.Given as goal
+
+abbrev pub invariant-loop-fuel : goal.invariant-loop-fuel
+invariant-loop-fuel l = record {
+  reads : read l.tokens l.fuel (The Names) l.at l.out.posts.items ≡ read l.tokens l.steps (The Names) l.first l.fn.out.posts.items;
+  kept : take l.mark l.out.posts.items ≡ l.fn.out.posts.items;
+}
+
+abbrev pub decreases-loop-fuel : goal.decreases-loop-fuel
+decreases-loop-fuel l = l.fuel

@@ -1,0 +1,56 @@
+// All tokens of a file, as one tree.
+ghost use Rattle.std.specs.Prelude.{◌≡◌, IfOk, IfErr, IfSome, List};
+ghost use Rattle.argot_tree.specs.Nesting.{IsShallow};
+ghost use Rattle.argot_tree.specs.Trees.{SpellsTree};
+ghost use Rattle.argot_parse.specs.Parsed.{IsSyntax, IsUnparsed};
+
+use crate::files::file;
+use argot_grammar::{ParseFault, Writer, first_too_deep, link};
+use argot_text::Sequence;
+use argot_tree::{Token, Tree};
+use std::alloc::Global;
+
+// The furthest token at which one that is needed was missing; a file may end too early too.
+fn syntax(out: &Writer, to: usize) -> ParseFault
+    ensures { IsSyntax result }
+{
+    let token = if out.furthest < to { to } else { out.furthest };
+    match u32::try_from(token) {
+        Ok(token) => ParseFault::Syntax { token },
+        Err(_) => ParseFault::Syntax { token: u32::MAX },
+    }
+}
+
+/// The tree that spells a file's tokens (Go specification: Source file organization).
+///
+/// The nodes are in preorder, each with its first token and its last, its first child and its next sibling. A tree is
+/// answered exactly where one spells the tokens and none of them is nested deeper than 200.
+pub fn parse(alloc: Global, tokens: &Vec<Token>) -> Result<Tree, ParseFault>
+    ensures tree { IfOk result (λ tree. SpellsTree tree tokens.now.items) }
+    ensures shallow { IfOk result (λ _. IsShallow tokens.now.items) }
+    ensures fault { IfErr result (IsUnparsed tokens.now.items) }
+{
+    if tokens.len() > u32::MAX as usize {
+        return Err(ParseFault::Memory);
+    }
+    if let Some(token) = first_too_deep(tokens) {
+        return Err(ParseFault::TooDeep {
+            token: token as u32,
+        });
+    }
+    let mut out = Writer {
+        posts: Vec::new(alloc),
+        furthest: 0,
+    };
+    let steps = 32 * tokens.len() + 1;
+    let Some(to) = file(tokens, &mut out, steps, 0)? else {
+        return Err(syntax(&out, 0));
+    };
+    if to != tokens.len() {
+        return Err(syntax(&out, to));
+    }
+    let nodes = link(alloc, &out.posts)?;
+    Ok(Tree {
+        nodes: Sequence::from_vec(nodes),
+    })
+}

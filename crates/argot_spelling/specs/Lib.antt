@@ -1,0 +1,10 @@
+pub mod Posts
+pub mod Reading
+pub mod Rooms
+pub mod TypeReader
+pub mod ExpressionReader
+pub mod StatementReader
+pub mod DeclarationReader
+pub mod FileReader
+pub mod Reader
+pub mod Laws
