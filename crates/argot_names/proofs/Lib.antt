@@ -1,0 +1,11 @@
+pub mod Meanings
+pub mod Orders
+pub mod Lying
+pub mod LyingDeclarations
+pub mod LyingTypes
+pub mod LyingExpressions
+pub mod LyingStatements
+pub mod LyingHeads
+pub mod LyingTrees
+pub mod NodeOrder
+pub mod Nesting
