@@ -1,6 +1,6 @@
 #!/bin/sh
 # Times lexing and parsing of generated files of 8 MiB, and their memory, beside gofmt -l on the same file where Go is
-# installed: many small functions, one long chain of operators, nesting at the limit, long texts. It installs nothing.
+# installed: many small functions, chains of operators, one long chain, nesting at the limit, long texts. It installs nothing.
 # usage: bench/parse.sh [ARGOT_SHOW]      (the built program; crates/argot_show/out/argot_show where none is named)
 set -eu
 show=${1:-$(dirname "$0")/../crates/argot_show/out/argot_show}
@@ -16,6 +16,17 @@ awk -v size="$size" 'BEGIN {
         done += length(text) + 1
     }
 }' > "$folder/functions.go"
+
+# gofmt's time grows with the square of a chain's length, and it refuses the whole file as one chain
+awk -v size="$size" 'BEGIN {
+    print "package main\n"
+    for (i = 0; done < size; i++) {
+        text = sprintf("var total%d = 1", i)
+        for (k = 0; k < 500; k++) text = text sprintf(" | %d", (i + k) % 1000)
+        print text
+        done += length(text) + 1
+    }
+}' > "$folder/chains.go"
 
 awk -v size="$size" 'BEGIN {
     printf "package main\n\nvar total = 1"
@@ -60,12 +71,14 @@ measure() {
     echo "$(((end - start) / 1000000)) $((memory / 1024))"
 }
 
-for form in functions chain nested texts; do
+for form in functions chains chain nested texts; do
     file=$folder/$form.go
     bytes=$(wc -c < "$file")
     ours=$(measure "$show" tree -count "$file")
     line="$form, $bytes bytes: argot_show tree -count ${ours% *} ms, ${ours#* } MB"
-    if command -v gofmt > /dev/null; then
+    if command -v gofmt > /dev/null && [ $form = chain ]; then
+        line="$line; gofmt refuses it"
+    elif command -v gofmt > /dev/null; then
         theirs=$(measure gofmt -l "$file")
         line="$line; gofmt -l ${theirs% *} ms, ${theirs#* } MB; ours takes $((100 * ${ours% *} / (${theirs% *} + 1))) percent of its time"
     fi
