@@ -22,7 +22,7 @@ awk -v size="$size" 'BEGIN {
     print "package main\n"
     for (i = 0; done < size; i++) {
         text = sprintf("var total%d = 1", i)
-        for (k = 0; k < 500; k++) text = text sprintf(" | %d", (i + k) % 1000)
+        for (k = 0; k < 50; k++) text = text sprintf(" | %d", (i + k) % 1000)
         print text
         done += length(text) + 1
     }
