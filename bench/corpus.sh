@@ -1,7 +1,7 @@
 #!/bin/sh
 # Runs the lexer and the parser over every .go file of an installed Go, read where it lies. It installs nothing, and where
 # no Go is, it is skipped. Without a reference it compares with what gofmt accepts: a file that gofmt takes must have tokens;
-# of those without a tree it counts the characters at which the subset ends. With a reference program it compares tokens
+# of those without a tree it counts the words at which the subset ends. With a reference program it compares tokens
 # and trees, a file at a time: REFERENCE front DIR --tokens prints the tokens of a folder's files, and --tree their trees or
 # a line with the position of the fault.
 # usage: bench/corpus.sh [ARGOT_SHOW [REFERENCE]]      (crates/argot_show/out/argot_show where no program is named)
@@ -23,7 +23,7 @@ find -L "$root/src" "$root/test" -type f -name '*.go' > "$folder/files"
 
 yes_or_no() { if "$@" > /dev/null 2>&1; then echo yes; else echo no; fi; }
 
-# the first two characters at which a file ends to be of the subset, or `nesting`
+# the word or the character at which a file ends to be of the subset, or `nesting`; names are one class
 end_of() {
     fault=$("$show" tree -count "$1" 2>&1 > /dev/null || true)
     case $fault in
@@ -33,7 +33,13 @@ end_of() {
             line=${place%%:*}
             column=${place#*:}
             column=${column%%:*}
-            sed -n "${line}p" "$1" | cut -b "$column-$((column + 1))" ;;
+            word=$(sed -n "${line}p" "$1" | cut -b "$column-" | grep -oE '^([A-Za-z_]+|.)' || true)
+            case $word in
+                '') echo 'the end of a line' ;;
+                map | chan | func | struct | interface | type) echo "$word" ;;
+                [A-Za-z_]*) echo 'a name' ;;
+                *) echo "$word" ;;
+            esac ;;
     esac
 }
 
@@ -75,6 +81,6 @@ sort "$folder/lexed" | uniq -c
 echo 'files by: has a tree, and is taken by the other'
 sort "$folder/parsed" | uniq -c
 if [ -s "$folder/ends" ]; then
-    echo 'files that gofmt takes and that have no tree, by the characters at which they end to be of the subset'
+    echo 'files that gofmt takes and that have no tree, by the words at which they end to be of the subset'
     sort "$folder/ends" | uniq -c | sort -rn
 fi
