@@ -1,5 +1,0 @@
-use Rattle.argot_names.proofs.Nesting.{blocks_nest}
-use Rattle.argot_names.proofs.laws.blocks_nest.Goals as goal
-
-pub returns : goal.returns
-returns c = blocks_nest
