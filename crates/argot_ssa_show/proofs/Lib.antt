@@ -1,0 +1,3 @@
+pub mod Well
+pub mod Built
+pub mod Numbers
