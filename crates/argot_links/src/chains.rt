@@ -1,7 +1,6 @@
 // Lists whose items stand in one column of cells, linked by index.
 ghost use Rattle.std.specs.Prelude.{◌≡◌, ℕ, ◌+◌, ◌<◌, ◌≤◌, ◌^◌, [], ◌∷◌, length, replicate, slice_set, slice_index_or, IfOk, OnOk, OnErr};
 ghost use Rattle.argot_links.specs.Chained.{Chained};
-ghost use Rattle.argot_links.specs.Linked.{chain, IsDown};
 ghost use Rattle.std.specs.Iterator.{YieldsFirst, item_count};
 
 use argot_text::Memory;
@@ -88,7 +87,7 @@ impl Chains {
     /// Goes over that list, in order. No memory.
     pub fn walk(&self, head: u32) -> ChainWalk<'_>
         requires { head < length self.now.lists }
-        ensures { chain result.at result.cells.now result.at ≡ slice_index_or self.now.lists head [] }
+        ensures { result ≡ slice_index_or self.now.lists head [] }
     {
         ChainWalk {
             cells: &self.cells,
@@ -97,21 +96,30 @@ impl Chains {
     }
 }
 
-/// Goes over one list.
+/// Goes over one list; contracts see it as what is left of that list.
 #[derive(Drop)]
 pub struct ChainWalk<'a> {
     cells: &'a [Cell],
     at: u32,
-    ghost down: { IsDown cells.now },
-    ghost within: { at ≤ length cells.now },
+}
+
+impl<'a> Model for ChainWalk<'a> {
+    ghost use Rattle.std.specs.Prelude.{ℕ, ◌≤◌, List, length};
+    ghost use Rattle.argot_links.specs.Linked.{chain, IsDown};
+
+    ghost Value = { List ℕ };
+
+    ghost view = { λ w. chain w.at w.cells.now w.at };
+
+    ghost invariant = { λ w. IsDown w.cells.now × (w.at ≤ length w.cells.now) };
 }
 
 impl<'a> Iterator for ChainWalk<'a> {
     type Item = u32;
 
-    ghost next_gives = { YieldsFirst (λ w. chain w.at w.cells.now w.at) };
+    ghost next_gives = { YieldsFirst (λ w. w) };
 
-    ghost remaining = { item_count (λ w. chain w.at w.cells.now w.at) };
+    ghost remaining = { item_count (λ w. w) };
 
     fn next(&mut self) -> Option<u32> {
         if self.at == 0 {

@@ -3,7 +3,7 @@ ghost use Rattle.std.specs.Prelude.{◌≡◌, ℕ, ◌+◌, ◌-◌, ◌^◌, �
 ghost use Rattle.std.specs.Iterator.{YieldsFirst, item_count};
 ghost use Rattle.argot_links.specs.Members.{IsAscending};
 ghost use Rattle.argot_links.specs.Pairs.{AddsPair, JoinsRow};
-ghost use Rattle.argot_links.specs.Table.{Table, row, has, columns, room, SameShape, AreAscending};
+ghost use Rattle.argot_links.specs.Table.{Table, row, has, room, SameShape, AreAscending};
 
 use crate::bits::Bits;
 use argot_text::Memory;
@@ -107,7 +107,7 @@ impl Rows {
     /// Goes over row r, whose columns ascend. No memory.
     pub fn walk(&self, r: u32) -> RowWalk<'_>
         requires { r < length self.now.rows }
-        ensures all { columns (has result.table.now result.row) result.at (result.table.now.cols - result.at) ≡ row self.now r }
+        ensures all { result ≡ row self.now r }
         ensures ascending { IsAscending (row self.now r) }
     {
         let _ = &self.bits;
@@ -119,21 +119,31 @@ impl Rows {
     }
 }
 
-/// Goes over one row.
+/// Goes over one row; contracts see it as what is left of that row.
 #[derive(Drop)]
 pub struct RowWalk<'a> {
     table: &'a Rows,
     row: u32,
     at: u32,
-    ghost in_range: { row < length table.now.rows },
+}
+
+impl<'a> Model for RowWalk<'a> {
+    ghost use Rattle.std.specs.Prelude.{ℕ, ◌-◌, ◌<◌, List, length};
+    ghost use Rattle.argot_links.specs.Table.{columns, has};
+
+    ghost Value = { List ℕ };
+
+    ghost view = { λ w. columns (has w.table.now w.row) w.at (w.table.now.cols - w.at) };
+
+    ghost invariant = { λ w. w.row < length w.table.now.rows };
 }
 
 impl<'a> Iterator for RowWalk<'a> {
     type Item = u32;
 
-    ghost next_gives = { YieldsFirst (λ w. columns (has w.table.now w.row) w.at (w.table.now.cols - w.at)) };
+    ghost next_gives = { YieldsFirst (λ w. w) };
 
-    ghost remaining = { item_count (λ w. columns (has w.table.now w.row) w.at (w.table.now.cols - w.at)) };
+    ghost remaining = { item_count (λ w. w) };
 
     fn next(&mut self) -> Option<u32> {
         match self.table.next_from(self.row, self.at) {

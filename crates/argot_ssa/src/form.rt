@@ -70,7 +70,7 @@ fn first_row(rows: &[(u32, u32, u32)], place: u32, register: u32) -> usize
 impl Ssa {
     /// The definitions of the register that reach the place, ascending. No memory.
     pub fn defs_of(&self, place: u32, register: u32) -> DefWalk<'_>
-        ensures { run (drop result.at result.rows.now) result.place result.register ≡ definitions self.now place register }
+        ensures { result ≡ definitions self.now place register }
     {
         let rows = self.rows.as_slice();
         DefWalk {
@@ -82,7 +82,7 @@ impl Ssa {
     }
 }
 
-/// Goes over the definitions of a register that reach a place.
+/// Goes over the definitions of a register that reach a place; contracts see it as what is left of them.
 #[derive(Drop)]
 pub struct DefWalk<'a> {
     rows: &'a [(u32, u32, u32)],
@@ -91,12 +91,21 @@ pub struct DefWalk<'a> {
     register: u32,
 }
 
+impl<'a> Model for DefWalk<'a> {
+    ghost use Rattle.std.specs.Prelude.{ℕ, List, drop};
+    ghost use Rattle.argot_ssa.specs.Form.{run};
+
+    ghost Value = { List ℕ };
+
+    ghost view = { λ w. run (drop w.at w.rows.now) w.place w.register };
+}
+
 impl<'a> Iterator for DefWalk<'a> {
     type Item = u32;
 
-    ghost next_gives = { YieldsFirst (λ w. run (drop w.at w.rows.now) w.place w.register) };
+    ghost next_gives = { YieldsFirst (λ w. w) };
 
-    ghost remaining = { item_count (λ w. run (drop w.at w.rows.now) w.place w.register) };
+    ghost remaining = { item_count (λ w. w) };
 
     fn next(&mut self) -> Option<u32> {
         if self.at >= self.rows.len() {

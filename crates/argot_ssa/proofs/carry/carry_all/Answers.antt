@@ -1,5 +1,4 @@
 use Rattle.std.proofs.Common.{◌≡◌, ℕ, ◌+◌, ◌++◌, ◌∷◌, [], true, slice_index, slice_index_or, ap, sym, ◌∙◌, subst, inl, inr, append_assoc}
-use Rattle.argot_links.specs.Linked.{chain}
 use Rattle.argot_links.specs.Table.{Table}
 use Rattle.argot_links.proofs.Having.{pushed_cases}
 use Rattle.argot_plain.specs.Lists.{In}
@@ -8,7 +7,7 @@ use Rattle.argot_ssa.proofs.Walks.{walked_one, walked_all}
 use Rattle.argot_ssa.proofs.carry.carry_all.Goals as goal
 use Rattle.argot_ssa.proofs.carry.carry_all.Goals.{In-Some}
 
-whole : (c : In-Some) → c.loop-d.yielded ++ (c.in-Some.d ∷ chain c.next.new.self.at c.next.new.self.cells.now c.next.new.self.at) ≡ slice_index_or c.args.outs.now.lists c.args.r []
+whole : (c : In-Some) → c.loop-d.yielded ++ (c.in-Some.d ∷ c.next.new.self) ≡ slice_index_or c.args.outs.now.lists c.args.r []
 whole c = ap (λ rest. c.loop-d.yielded ++ rest) (sym c.in-Some.ensures.steps) ∙ c.loop-d.invariant.rest
 
 edge : (c : In-Some) → leads c.args.outs.now.lists c.args.r c.in-Some.d ≡ true

@@ -1,6 +1,5 @@
 use Rattle.std.proofs.Common.{◌≡◌, ℕ, ◌+◌, ◌⊎◌, [], ◌++◌, true, length, slice_index, slice_index_or}
 use Rattle.argot_links.specs.Members.{has}
-use Rattle.argot_links.specs.Linked.{chain}
 use Rattle.argot_plain.specs.Lists.{In}
 use Rattle.argot_ssa.specs.Edges.{leads, holds, Spreads}
 use Rattle.argot_ssa.specs.Paths.{Row}
@@ -9,7 +8,7 @@ use Rattle.argot_ssa.proofs.carry.carry_all.Given as goal
 
 abbrev pub invariant-loop-d : goal.invariant-loop-d
 invariant-loop-d l = record {
-  rest : l.yielded ++ chain l.d-iterator.at l.d-iterator.cells.now l.d-iterator.at ≡ slice_index_or l.outs.lists l.r [];
+  rest : l.yielded ++ l.d-iterator ≡ slice_index_or l.outs.lists l.r [];
   work : IsWork (length l.heads) l.work;
   stops : l.work.stops ≡ l.fn.work.stops;
   needed : l.work.needed ≡ l.fn.work.needed;

@@ -1,5 +1,4 @@
 use Rattle.std.proofs.Common.{◌≡◌, ◌+◌, ◌++◌, ◌∷◌, [], true, slice_index, slice_index_or, ap, sym, ◌∙◌, subst, inl, inr, append_assoc}
-use Rattle.argot_links.specs.Linked.{chain}
 use Rattle.argot_links.proofs.Having.{pushed_cases}
 use Rattle.argot_plain.specs.Lists.{In}
 use Rattle.argot_ssa.specs.Edges.{leads, holds}
@@ -7,7 +6,7 @@ use Rattle.argot_ssa.proofs.Walks.{walked_one, walked_all}
 use Rattle.argot_ssa.proofs.carry.emit.Goals as goal
 use Rattle.argot_ssa.proofs.carry.emit.Goals.{In-Some}
 
-whole : (c : In-Some) → c.loop-k.yielded ++ (c.in-Some.k ∷ chain c.next.new.self.at c.next.new.self.cells.now c.next.new.self.at) ≡ slice_index_or c.args.asks.now.lists c.args.r []
+whole : (c : In-Some) → c.loop-k.yielded ++ (c.in-Some.k ∷ c.next.new.self) ≡ slice_index_or c.args.asks.now.lists c.args.r []
 whole c = ap (λ rest. c.loop-k.yielded ++ rest) (sym c.in-Some.ensures.steps) ∙ c.loop-k.invariant.rest
 
 edge : (c : In-Some) → leads c.args.asks.now.lists c.args.r c.in-Some.k ≡ true

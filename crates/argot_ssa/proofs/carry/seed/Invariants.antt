@@ -1,12 +1,11 @@
 use Rattle.std.proofs.Common.{◌≡◌, ℕ, [], ◌++◌, true, slice_index, slice_index_or}
 use Rattle.argot_links.specs.Members.{has}
-use Rattle.argot_links.specs.Linked.{chain}
 use Rattle.argot_ssa.specs.Edges.{leads, IsSet, holds}
 use Rattle.argot_ssa.proofs.carry.seed.Given as goal
 
 abbrev pub invariant-loop-k : goal.invariant-loop-k
 invariant-loop-k l = record {
-  rest : l.yielded ++ chain l.k-iterator.at l.k-iterator.cells.now l.k-iterator.at ≡ slice_index_or l.asks.lists l.r [];
+  rest : l.yielded ++ l.k-iterator ≡ slice_index_or l.asks.lists l.r [];
   cols : l.needed.cols ≡ l.fn.needed.cols;
   needed : IsSet l.needed.cols l.needed;
   queue : l.queue.size ≡ l.needed.cols;

@@ -1,13 +1,12 @@
 use Rattle.std.proofs.Common.{◌≡◌, ℕ, ◌+◌, ◌*◌, ◌≤◌, ◌⊎◌, [], ◌++◌, length, true, slice_index_or}
 use Rattle.argot_links.specs.Members.{has}
 use Rattle.argot_links.specs.Table.{room}
-use Rattle.argot_links.specs.Linked.{chain}
 use Rattle.argot_ssa.specs.Edges.{leads, IsSet, holds}
 use Rattle.argot_ssa.proofs.flood.expand.Given as goal
 
 abbrev pub invariant-loop-b : goal.invariant-loop-b
 invariant-loop-b l = record {
-  rest : l.yielded ++ chain l.b-iterator.at l.b-iterator.cells.now l.b-iterator.at ≡ slice_index_or l.edges.lists l.from [];
+  rest : l.yielded ++ l.b-iterator ≡ slice_index_or l.edges.lists l.from [];
   cols : l.marks.cols ≡ l.fn.marks.cols;
   marks : IsSet l.marks.cols l.marks;
   queue : l.queue.size ≡ l.marks.cols;
