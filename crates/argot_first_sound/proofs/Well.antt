@@ -64,6 +64,24 @@ leaves-few [] g r = omega arith
 leaves-few (f ∷ fs) zero r = leaf-few f (registers_of f) r
 leaves-few (f ∷ fs) (suc g) r = leaves-few fs g r
 
+distinct-none : IsDistinct {A = List PathStep} []
+distinct-none a b x h k = absurd (cc h)
+
+distinct-one : IsDistinct one_leaf
+distinct-one zero zero x h k = refl
+distinct-one zero (suc b) x h k = absurd (cc k)
+distinct-one (suc a) b x h k = absurd (cc h)
+
+leaf-distinct : (f : First.Plain) (n r : ℕ) → IsDistinct (leaves_in (Some (record (whole_function f) { registers = replicate n one_leaf })) r)
+leaf-distinct f zero r = distinct-none
+leaf-distinct f (suc n) zero = distinct-one
+leaf-distinct f (suc n) (suc r) = leaf-distinct f n r
+
+leaves-distinct : (fs : List First.Plain) (g r : ℕ) → IsDistinct (leaves_in (slice_get (map whole_function fs) g) r)
+leaves-distinct [] g r = distinct-none
+leaves-distinct (f ∷ fs) zero r = leaf-distinct f (registers_of f) r
+leaves-distinct (f ∷ fs) (suc g) r = leaves-distinct fs g r
+
 first-file : (xs : List First.Instr) (i : ℕ) (x : Instr) → slice_get (map whole_instr xs) i ≡ Some x → (x.at.file ≡ 0) × (x.tags ≡ [])
 first-file xs i x h = let y = map-back whole_instr xs i x h in (ap (λ (z : Instr). z.at.file) y.2, ap (λ (z : Instr). z.tags) y.2)
 
@@ -321,6 +339,7 @@ module _ (code : First.Code) (ok : Fitting code) where
         let l : f.0.params ≤ registers_of f.0 = omega arith in
         subst (λ (y : Function). y.params ≤ length y.registers) (sym f.2) (subst (λ z. f.0.params ≤ z) (sym (length-registers f.0)) l);
     once = λ i to args callee at. let x = good-somewhere i (Call to callee args) at in once-by to x.1.good.3.few_results;
+    distinct = λ g r. leaves-distinct code.functions g r;
   }
 
   moved : (i g to from : ℕ) (path : List PathStep) → IsIn (whole_of code) i g → IsAt (whole_of code) i (Move to from path) → leaves (whole_of code) g to ≡ filter_map (below path) (leaves (whole_of code) g from)

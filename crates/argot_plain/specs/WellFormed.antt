@@ -69,11 +69,13 @@ pub record ReadsBehindExit (p : Code) : Type 0 where
   pub goto : (i g target : ℕ) (fn : Function) → IsFunction p g fn → IsIn p i g → IsAt p i (Goto target) → target ≤ fn.exit
   pub branch : (i g target : ℕ) (targets : List ℕ) (fn : Function) → IsFunction p g fn → IsIn p i g → IsAt p i (Branch targets) → In target targets → target ≤ fn.exit
 
--- the registers that places name are there, the parameters are the first ones, and a Call names each result once
+-- the registers that places name are there, the parameters are the first ones, a Call names each result once, and the
+-- leaf paths of a register are distinct
 pub record HasRegisters (p : Code) : Type 0 where
   pub there : (i g r : ℕ) (kind : Kind) (fn : Function) → IsFunction p g fn → IsIn p i g → IsAt p i kind → In r (defined kind ++ reads kind) → r < length fn.registers
   pub params : (g : ℕ) (fn : Function) → IsFunction p g fn → fn.params ≤ length fn.registers
   pub once : (i : ℕ) (to args : List ℕ) (callee : Callee) → IsAt p i (Call to callee args) → IsDistinct to
+  pub distinct : (g r : ℕ) → IsDistinct (leaves p g r)
 
 abbrev pub callee_registers : Callee → List ℕ
 callee_registers (Static g) = []

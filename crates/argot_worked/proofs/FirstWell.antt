@@ -1,5 +1,5 @@
 -- The first program is well formed.
-use Rattle.std.proofs.Common.{◌≡◌, ◌<◌, ◌≤◌, ℕ, zero, suc, ◌+◌, true, false, List, [], ◌∷◌, ◌++◌, Some, length, refl, sym, ap, ◌∙◌, subst, inl, inr, arith}
+use Rattle.std.proofs.Common.{◌≡◌, ◌<◌, ◌≤◌, ℕ, zero, suc, ◌+◌, true, false, List, [], ◌∷◌, ◌++◌, Some, length, refl, sym, ap, ◌∙◌, subst, ◌⊎◌, inl, inr, arith}
 use Rattle.std.specs.Prelude.{slice_get, ◌≢◌}
 use Rattle.std.specs.List.{filter_map}
 use Rattle.argot_plain.specs.Lists.{In, here, there, IsDistinct, below}
@@ -132,6 +132,13 @@ each_instr P (y ∷ ys) h (suc k) x e = each_instr P ys h.1 k x e
 leaf_count : (g r : ℕ) → length (leaves first_flow g r) ≤ 4096
 leaf_count g r = elim (leaves_are look g r) [ inl e ↦ subst (λ (q : List (List PathStep)). length q ≤ 4096) (sym e) (omega arith) | inr e ↦ subst (λ (q : List (List PathStep)). length q ≤ 4096) (sym e) (omega arith) ]
 
+distinct_paths : (qs : List (List PathStep)) → (qs ≡ []) ⊎ (qs ≡ [] ∷ []) → IsDistinct qs
+distinct_paths [] e a b x h k = absurd cc
+distinct_paths (q ∷ []) e zero zero x h k = refl
+distinct_paths (q ∷ []) e zero (suc b) x h k = absurd cc
+distinct_paths (q ∷ []) e (suc a) b x h k = absurd cc
+distinct_paths (q ∷ r ∷ rs) e a b x h k = elim e [ inl f ↦ absurd cc | inr f ↦ absurd cc ]
+
 goes_to_no_entry : (i j g : ℕ) → Successor first_flow i j → IsEntry first_flow j g → ⊥
 goes_to_no_entry i j g (successor kind at onward) e = let x = next_entry i kind at j onward in functions_are look (λ g fn. j ≡ fn.entry → ⊥) x.0 x.1 x.2 x.3 g e.fn e.is e.at
 
@@ -170,6 +177,7 @@ well_formed = record {
     there = λ i g r kind fn is inside at m. (let b = bounds i g fn inside is in registers_at i kind at r m g fn is b.0 b.1);
     params = functions_are look (λ g fn. fn.params ≤ length fn.registers) (omega arith) (omega arith) (omega arith) (omega arith);
     once = λ i to args callee at. once_at i (Call to callee args) at to args callee refl;
+    distinct = λ g r. distinct_paths (leaves first_flow g r) (leaves_are look g r);
   };
   references = record {
     each = λ i g r kind inside at m. absurd (references_at i kind at r m);
