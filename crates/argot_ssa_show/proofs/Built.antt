@@ -1,12 +1,12 @@
 -- The programs that are built are samples.
-use Rattle.std.proofs.Common.{◌≡◌, ℕ, zero, suc, ◌+◌, ◌<◌, ◌≤◌, ◌++◌, false, List, [], ◌∷◌, Some, None, length, map, replicate, slice_get, refl, sym, ap, subst, ◌∙◌, inl, inr, arith, length-append}
-use Rattle.std.proofs.lemmas.List.{length-replicate, length-map}
+use Rattle.std.proofs.Common.{◌≡◌, ℕ, zero, suc, ◌+◌, ◌<◌, ◌≤◌, ◌++◌, List, [], ◌∷◌, Some, length, map, replicate, slice_get, refl, sym, ap, subst, arith}
+use Rattle.std.proofs.lemmas.List.{length-replicate}
 use Rattle.argot_plain.specs.Code.{IsAt, kind_of}
 use Rattle.argot_plain.specs.WellFormed.{WellFormed}
 use Rattle.argot_plain.specs.declared.instructions.Instr.{Instr}
 use Rattle.argot_plain.specs.declared.instructions.Kind.{Kind}
 use Rattle.argot_plain.specs.declared.instructions.Kind.TheVariants.{RunDefers, Leave, Goto}
-use Rattle.argot_ssa_show.specs.Sample.{one_leaf, step, instrs_of, entry_of, sample, IsAllowed, AreAllowed, IsSample}
+use Rattle.argot_ssa_show.specs.Sample.{one_leaf, step, instrs_of, entry_of, sample, IsAllowed, AreAllowed}
 use Rattle.argot_ssa_show.proofs.Well.{well}
 
 abbrev tail : List Kind → List Instr
@@ -72,5 +72,5 @@ built_well kinds file registers few all = well (entry_of (length kinds + 1) regi
   runs = at_suc kinds file registers (length kinds) RunDefers (at_exit kinds);
   leaves = at_suc kinds file registers (length kinds + 1) (Leave []) (let shift : suc (length kinds) ≡ length kinds + 1 = omega arith in subst (λ n. kind_of (slice_get (tail kinds) n) ≡ Some (Leave [])) shift (at_leave kinds));
   between = inside kinds file registers all;
-  plain = plain kinds
+  plain = plain kinds;
 })

@@ -1,5 +1,5 @@
 -- Numbers in bounds, by index and by member.
-use Rattle.std.proofs.Common.{◌≡◌, ℕ, zero, suc, ◌+◌, ◌<◌, ◌≤◌, ◌++◌, List, [], ◌∷◌, Some, length, slice_index, slice_get, refl, sym, subst, arith}
+use Rattle.std.proofs.Common.{◌≡◌, ℕ, zero, suc, ◌<◌, ◌++◌, List, [], ◌∷◌, Some, length, slice_index, slice_get, refl, sym, subst, arith}
 use Rattle.argot_plain.specs.Lists.{In, IsDistinct}
 use Rattle.argot_plain.specs.Lists.In.{here, there}
 use Rattle.argot_plain.specs.declared.instructions.Kind.{Kind}

@@ -1,21 +1,20 @@
 -- Sample programs are well formed.
-use Rattle.std.proofs.Common.{◌≡◌, ◌≢◌, ℕ, zero, suc, ◌+◌, ◌-◌, ◌<◌, ◌≤◌, ◌⊎◌, ◌++◌, ◌==◌, Bool, true, false, List, [], ◌∷◌, Option, Some, None, length, slice_get, refl, sym, ap, subst, ◌∙◌, inl, inr, arith}
+use Rattle.std.proofs.Common.{◌≡◌, ℕ, zero, suc, ◌+◌, ◌<◌, ◌≤◌, ◌⊎◌, ◌++◌, List, [], ◌∷◌, Some, None, length, slice_get, refl, sym, ap, subst, ◌∙◌, inl, inr, arith}
 use Rattle.std.specs.List.{filter_map}
 use Rattle.std.proofs.lemmas.Bool.{cases_eq, cases_lt}
 use Rattle.std.proofs.lemmas.Option.{slice_get_cases, slice_get_past}
 use Rattle.argot_plain.specs.Lists.{In, IsDistinct, below}
 use Rattle.argot_plain.specs.Lists.In.{here, there}
-use Rattle.argot_plain.specs.Code.{Code, IsAt, IsFunction, IsEntry, IsIn, IsSiteOf, Successor, Next, Hands, leaves, kind_of, defined, reads}
+use Rattle.argot_plain.specs.Code.{Code, IsAt, IsFunction, IsEntry, IsIn, Successor, Next, Hands, leaves, kind_of, defined, reads}
 use Rattle.argot_plain.specs.Code.Successor.{successor}
 use Rattle.argot_plain.specs.Code.Hands.{by_call as hands_call, by_go, by_defer}
-use Rattle.argot_plain.specs.WellFormed.{WellFormed, FitsStatic, reference_registers, IsReadOrMove}
+use Rattle.argot_plain.specs.WellFormed.{WellFormed, reference_registers}
 use Rattle.argot_plain.specs.declared.functions.Function.{Function}
-use Rattle.argot_plain.specs.declared.functions.Role.TheVariants.{Own, Wrapper, Bound}
 use Rattle.argot_plain.specs.declared.instructions.Callee.{Callee}
-use Rattle.argot_plain.specs.declared.instructions.Callee.TheVariants.{Static, Value, Method}
+use Rattle.argot_plain.specs.declared.instructions.Callee.TheVariants.{Static}
 use Rattle.argot_plain.specs.declared.instructions.Instr.{Instr}
 use Rattle.argot_plain.specs.declared.instructions.Kind.{Kind}
-use Rattle.argot_plain.specs.declared.instructions.Kind.TheVariants.{Op, Move, Join, New, Step, Read, Write, Grow, Global, Assert, Call, Go, Defer, RunDefers, Leave, Goto, Branch, Panic, Passed}
+use Rattle.argot_plain.specs.declared.instructions.Kind.TheVariants.{Op, Move, Join, New, Step, Read, Write, Grow, Global, Assert, Call, Go, Defer, RunDefers, Leave, Goto, Branch, Passed}
 use Rattle.argot_text.specs.declared.path.PathStep.{PathStep}
 use Rattle.argot_ssa_show.specs.Sample.{one_leaf, IsAllowed, sample, IsSample}
 use Rattle.argot_ssa_show.specs.Sample.IsAllowed.{by_op, by_move, by_call, by_goto, by_branch}
@@ -45,6 +44,14 @@ in_one x y (here e) = e
 in_one x y (there m) = in_none x m
 
 -- what doesn't stand there
+none_distinct : IsDistinct {A = List PathStep} []
+none_distinct a b x h k = absurd (cc h)
+
+one_distinct : IsDistinct one_leaf
+one_distinct zero zero x h k = refl
+one_distinct zero (suc b) x h k = absurd (cc k)
+one_distinct (suc a) b x h k = absurd (cc h)
+
 no_join : {exit registers i : ℕ} {to : ℕ} {parts : List (List PathStep × ℕ)} → Stands exit registers i (Join to parts) → ⊥
 no_join (middle low up a) = elim a [ ]
 
@@ -151,23 +158,23 @@ module _ (fn : Function) (instrs : List Instr) (file : List ℕ) (s : IsSample f
 
   stands : (i : ℕ) (kind : Kind) → IsAt p i kind → Stands fn.exit (length fn.registers) i kind
   stands i kind at =
-    let St : ℕ → Kind → Type 0 = λ j k. Stands fn.exit (length fn.registers) j k in
-    let within = at_within i kind at in
-    let count = s.count in
-    let end = s.leave in
-    elim (cases_eq i 0) [
-      | inl zero_is ↦ subst (λ j. St j kind) (sym zero_is) (subst (St 0) (same_kind 0 (Goto 1) kind s.begins (subst (λ j. IsAt p j kind) zero_is at)) first)
-      | inr above ↦ elim (cases_lt i fn.exit) [
-        | inl less ↦ middle (omega arith) less (s.between i kind (omega arith) less at)
-        | inr more ↦ elim (cases_eq i fn.exit) [
-          | inl at_exit ↦ subst (λ j. St j kind) (sym at_exit) (subst (St fn.exit) (same_kind fn.exit RunDefers kind s.runs (subst (λ j. IsAt p j kind) at_exit at)) run)
-          | inr behind ↦
-            let is : i ≡ fn.exit + 1 = omega arith in
-            let here : IsAt p (fn.exit + 1) (Leave []) = subst (λ j. IsAt p j (Leave [])) end s.leaves in
-            subst (λ j. St j kind) (sym is) (subst (St (fn.exit + 1)) (same_kind (fn.exit + 1) (Leave []) kind here (subst (λ j. IsAt p j kind) is at)) last)
+      let St : ℕ → Kind → Type 0 = λ j k. Stands fn.exit (length fn.registers) j k in
+      let within = at_within i kind at in
+      let count = s.count in
+      let end = s.leave in
+      elim (cases_eq i 0) [
+        | inl zero_is ↦ subst (λ j. St j kind) (sym zero_is) (subst (St 0) (same_kind 0 (Goto 1) kind s.begins (subst (λ j. IsAt p j kind) zero_is at)) first)
+        | inr above ↦ elim (cases_lt i fn.exit) [
+          | inl less ↦ middle (omega arith) less (s.between i kind (omega arith) less at)
+          | inr more ↦ elim (cases_eq i fn.exit) [
+            | inl at_exit ↦ subst (λ j. St j kind) (sym at_exit) (subst (St fn.exit) (same_kind fn.exit RunDefers kind s.runs (subst (λ j. IsAt p j kind) at_exit at)) run)
+            | inr behind ↦
+                let is : i ≡ fn.exit + 1 = omega arith in
+                let here : IsAt p (fn.exit + 1) (Leave []) = subst (λ j. IsAt p j (Leave [])) end s.leaves in
+                subst (λ j. St j kind) (sym is) (subst (St (fn.exit + 1)) (same_kind (fn.exit + 1) (Leave []) kind here (subst (λ j. IsAt p j kind) is at)) last)
+          ]
         ]
       ]
-    ]
 
   only : (g : ℕ) (other : Function) → IsFunction p g other → (g ≡ 0) × (fn ≡ other)
   only zero other is = (refl, cc)
@@ -192,29 +199,36 @@ module _ (fn : Function) (instrs : List Instr) (file : List ℕ) (s : IsSample f
   ]
   leaf_count (suc g) r = omega arith
 
+  leaf_distinct : (g r : ℕ) → IsDistinct (leaves p g r)
+  leaf_distinct zero r = elim (cases_lt r (length fn.registers)) [
+    | inl low ↦ rw (leaf r low) one_distinct
+    | inr high ↦ rw (slice_get_past fn.registers r high) none_distinct
+  ]
+  leaf_distinct (suc g) r = none_distinct
+
   at_zero : (j g : ℕ) → IsEntry p j g → j ≡ 0
   at_zero j g e = e.at ∙ ap (λ (f : Function). f.entry) (sym (only g e.fn e.is).1) ∙ s.entry_at
 
   inside_bounds : (i g : ℕ) → IsIn p i g → i ≤ fn.exit + 1
   inside_bounds i g inside =
-    let same : fn.leave ≡ inside.fn.leave = ap (λ (f : Function). f.leave) (only g inside.fn inside.is).1 in
-    let high = inside.high in
-    let end = s.leave in
-    omega arith
+      let same : fn.leave ≡ inside.fn.leave = ap (λ (f : Function). f.leave) (only g inside.fn inside.is).1 in
+      let high = inside.high in
+      let end = s.leave in
+      omega arith
 
   stays : (i j g : ℕ) → Successor p i j → IsIn p i g → IsIn p j g
   stays i j g (successor kind at next) inside =
-    let b = next_in fn.exit (length fn.registers) i j kind s.body (stands i kind at) next in
-    let same = (only g inside.fn inside.is).1 in
-    let entry : inside.fn.entry ≡ 0 = ap (λ (f : Function). f.entry) (sym same) ∙ s.entry_at in
-    let leave : inside.fn.leave ≡ fn.exit + 1 = ap (λ (f : Function). f.leave) (sym same) ∙ s.leave in
-    record { fn = inside.fn; is = inside.is; low = omega arith; high = omega arith }
+      let b = next_in fn.exit (length fn.registers) i j kind s.body (stands i kind at) next in
+      let same = (only g inside.fn inside.is).1 in
+      let entry : inside.fn.entry ≡ 0 = ap (λ (f : Function). f.entry) (sym same) ∙ s.entry_at in
+      let leave : inside.fn.leave ≡ fn.exit + 1 = ap (λ (f : Function). f.leave) (sym same) ∙ s.leave in
+      record { fn = inside.fn; is = inside.is; low = omega arith; high = omega arith }
 
   no_entry : (i j g : ℕ) → Successor p i j → IsEntry p j g → ⊥
   no_entry i j g (successor kind at next) e =
-    let b = next_in fn.exit (length fn.registers) i j kind s.body (stands i kind at) next in
-    let zero_is = at_zero j g e in
-    omega arith
+      let b = next_in fn.exit (length fn.registers) i j kind s.body (stands i kind at) next in
+      let zero_is = at_zero j g e in
+      omega arith
 
   no_handed_static : (i h n : ℕ) (kind : Kind) (args : List ℕ) → IsAt p i kind → Hands kind (Static h) args n → ⊥
   no_handed_static i h n _ args at hands_call = no_static (stands i _ at)
@@ -233,7 +247,7 @@ module _ (fn : Function) (instrs : List Instr) (file : List ℕ) (s : IsSample f
       inside = at_all (λ f. (f.entry ≤ f.exit) × (f.exit ≤ f.leave) × (f.leave < length instrs)) (let a = s.entry_at in let b = s.body in let c = s.leave in let d = s.count in (omega arith, omega arith, omega arith));
       first = λ other is. ap (λ (f : Function). f.entry) (sym (only 0 other is).1) ∙ s.entry_at;
       next = λ g other after is is'. absurd (let e = (only (g + 1) after is').0 in omega arith);
-      last = λ g other is e. ap (λ (f : Function). f.leave + 1) (sym (only g other is).1) ∙ sym s.count
+      last = λ g other is e. ap (λ (f : Function). f.leave + 1) (sym (only g other is).1) ∙ sym s.count;
     };
     entry_function = record { fn = fn; is = refl; body = s.external; params = s.params; results = s.results; own = s.role; nameless = s.ident };
     externals = λ g flows other is e. absurd (let same = ap (λ (f : Function). f.external) (only g other is).1 in let none = s.external in cc);
@@ -243,25 +257,26 @@ module _ (fn : Function) (instrs : List Instr) (file : List ℕ) (s : IsSample f
     stays = stays;
     runs_at_exit = record {
       stands = λ g other is e. at_all (λ f. IsAt p f.exit RunDefers) s.runs g other is;
-      alone = λ i g other at inside is. run_only (stands i RunDefers at) ∙ ap (λ (f : Function). f.exit) (only g other is).1
+      alone = λ i g other at inside is. run_only (stands i RunDefers at) ∙ ap (λ (f : Function). f.exit) (only g other is).1;
     };
     leaves_at_leave = record {
       stands = λ g other is e. ([], at_all (λ f. IsAt p f.leave (Leave [])) s.leaves g other is);
-      alone = λ i g from other at inside is. (leave_only (stands i (Leave from) at)).0 ∙ sym s.leave ∙ ap (λ (f : Function). f.leave) (only g other is).1
+      alone = λ i g from other at inside is. (leave_only (stands i (Leave from) at)).0 ∙ sym s.leave ∙ ap (λ (f : Function). f.leave) (only g other is).1;
     };
     reads_behind_exit = record {
       reads = λ i g other is low up. absurd (let a = ap (λ (f : Function). f.exit) (only g other is).1 in let b = ap (λ (f : Function). f.leave) (only g other is).1 in let c = s.leave in omega arith);
       goto = λ i g target other is inside at. subst (λ (f : Function). target ≤ f.exit) (only g other is).1 (goto_to fn.exit _ s.body (stands i (Goto target) at));
-      branch = λ i g target targets other is inside at m. subst (λ (f : Function). target ≤ f.exit) (only g other is).1 (branch_to (stands i (Branch targets) at) target m)
+      branch = λ i g target targets other is inside at m. subst (λ (f : Function). target ≤ f.exit) (only g other is).1 (branch_to (stands i (Branch targets) at) target m);
     };
     registers = record {
       there = λ i g r kind other is inside at m. subst (λ (f : Function). r < length f.registers) (only g other is).1 (fits (stands i kind at) r m);
       params = at_all (λ f. f.params ≤ length f.registers) (let none = s.params in omega arith);
-      once = λ i to args callee at. distinct (stands i _ at)
+      once = λ i to args callee at. distinct (stands i _ at);
+      distinct = leaf_distinct;
     };
     references = record {
       each = λ i g r kind inside at m. no_leaves g r i kind inside at m;
-      param = λ g other is e. absurd (let same = ap (λ (f : Function). f.has_env) (only g other is).1 in let none = s.has_env in cc)
+      param = λ g other is e. absurd (let same = ap (λ (f : Function). f.has_env) (only g other is).1 in let none = s.has_env in cc);
     };
     op_leaf = λ i g to from inside at. leaf_of g to i inside (fits (stands i (Op to from) at) to (here refl));
     move_leaves = λ i g to from path inside at. moved i g to from path inside (stands i _ at);
@@ -282,7 +297,7 @@ module _ (fn : Function) (instrs : List Instr) (file : List ℕ) (s : IsSample f
     environments = record {
       bound = λ g other is e. absurd (let same = ap (λ (f : Function). f.role) (only g other is).1 in let none = s.role in cc);
       wrapper = λ g other is e. absurd (let same = ap (λ (f : Function). f.role) (only g other is).1 in let none = s.role in cc);
-      declared = λ g other ident is e. sym (ap (λ (f : Function). f.has_env) (only g other is).1) ∙ s.has_env
+      declared = λ g other ident is e. sym (ap (λ (f : Function). f.has_env) (only g other is).1) ∙ s.has_env;
     };
     identified = λ g other ident is e. sym (ap (λ (f : Function). f.role) (only g other is).1) ∙ s.role;
     numbers = record {
@@ -294,13 +309,13 @@ module _ (fn : Function) (instrs : List Instr) (file : List ℕ) (s : IsSample f
       function = λ n h site e f. absurd (cc);
       instr_file = λ i x e. (let zero_is = (s.plain i x e).0 in omega arith);
       function_file = at_all (λ f. f.at.file < 1) (let zero_is = s.at_file in omega arith);
-      global_file = λ k n ident at e. absurd (cc)
+      global_file = λ k n ident at e. absurd (cc);
     };
     tagged = λ i x e tags. absurd (tags (s.plain i x e).1);
     limits = record {
       functions = omega arith;
       instrs = s.few;
       leaves = leaf_count;
-      shapes = λ n site e f. absurd (cc)
-    }
+      shapes = λ n site e f. absurd (cc);
+    };
   }

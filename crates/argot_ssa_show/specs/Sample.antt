@@ -57,8 +57,20 @@ instrs_of kinds = step (Goto 1) ∷ (map step kinds ++ step RunDefers ∷ step (
 -- its entry, whose exit stands there, with so many registers
 abbrev pub entry_of : ℕ → ℕ → Function
 entry_of exit registers = record {
-  name = codes "entry"; at = record { file = 0; line = 1; col = 1 }; entry = 0; exit = exit; leave = exit + 1; params = 0; results = 0;
-  registers = replicate registers one_leaf; wraps = None; role = Own; ident = None; has_env = false; external = None }
+  name = codes "entry";
+  at = record { file = 0; line = 1; col = 1 };
+  entry = 0;
+  exit = exit;
+  leave = exit + 1;
+  params = 0;
+  results = 0;
+  registers = replicate registers one_leaf;
+  wraps = None;
+  role = Own;
+  ident = None;
+  has_env = false;
+  external = None;
+}
 
 -- each of the kinds may stand there
 abbrev pub AreAllowed : ℕ → ℕ → List Kind → Type 0

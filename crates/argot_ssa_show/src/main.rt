@@ -12,9 +12,8 @@ mod sample;
 
 use crate::answer::answer;
 use argot_text::Memory;
-use std::fs;
-use std::io;
 use std::io::Write;
+use std::{fs, io};
 
 #[cfg(test)]
 mod tests;

@@ -41,7 +41,13 @@ fn are_targets(numbers: &[u32], exit: u32) -> bool
     true
 }
 
-fn op(alloc: Global, to: u32, from: &[u32], exit: u32, registers: u32) -> Result<Option<Kind>, Memory>
+fn op(
+    alloc: Global,
+    to: u32,
+    from: &[u32],
+    exit: u32,
+    registers: u32,
+) -> Result<Option<Kind>, Memory>
     ensures { IfOk result (λ o. IfSome o (IsAllowed exit registers)) }
 {
     if to >= registers {
@@ -100,7 +106,14 @@ fn results(alloc: Global, to: Option<u32>, registers: u32) -> Result<Option<Vec<
     Ok(Some(results))
 }
 
-fn call(alloc: Global, callee: u32, to: Option<u32>, args: &[u32], exit: u32, registers: u32) -> Result<Option<Kind>, Memory>
+fn call(
+    alloc: Global,
+    callee: u32,
+    to: Option<u32>,
+    args: &[u32],
+    exit: u32,
+    registers: u32,
+) -> Result<Option<Kind>, Memory>
     ensures { IfOk result (λ o. IfSome o (IsAllowed exit registers)) }
 {
     if callee >= registers {
@@ -119,7 +132,12 @@ fn call(alloc: Global, callee: u32, to: Option<u32>, args: &[u32], exit: u32, re
     Ok(Some(Kind::Call { to, callee, args }))
 }
 
-fn kind_of(alloc: Global, numbers: &[u32], exit: u32, registers: u32) -> Result<Option<Kind>, Memory>
+fn kind_of(
+    alloc: Global,
+    numbers: &[u32],
+    exit: u32,
+    registers: u32,
+) -> Result<Option<Kind>, Memory>
     ensures { IfOk result (λ o. IfSome o (IsAllowed exit registers)) }
 {
     match numbers {
@@ -133,7 +151,12 @@ fn kind_of(alloc: Global, numbers: &[u32], exit: u32, registers: u32) -> Result<
     }
 }
 
-fn read_all(alloc: Global, lines: &[&str], exit: u32, registers: u32) -> Result<Option<Vec<Kind>>, Memory>
+fn read_all(
+    alloc: Global,
+    lines: &[&str],
+    exit: u32,
+    registers: u32,
+) -> Result<Option<Vec<Kind>>, Memory>
     ensures allowed { IfOk result (λ o. IfSome o (λ v. AreAllowed exit registers v.items)) }
     ensures count { IfOk result (λ o. IfSome o (λ v. length v.items ≡ length lines.now)) }
 {

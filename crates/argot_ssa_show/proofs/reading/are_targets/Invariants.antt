@@ -1,4 +1,4 @@
-use Rattle.std.proofs.Common.{◌≡◌, ℕ, ◌<◌, ◌≤◌, slice_index}
+use Rattle.std.proofs.Common.{ℕ, ◌<◌, ◌≤◌, slice_index}
 use Rattle.argot_ssa_show.proofs.reading.are_targets.Given as goal
 
 abbrev pub invariant-loop-number : goal.invariant-loop-number

@@ -1,4 +1,4 @@
-use Rattle.std.proofs.Common.{◌≡◌, ℕ, ◌<◌, ◌≤◌, List, ◌∙◌, sym, subst, arith}
+use Rattle.std.proofs.Common.{◌≡◌, ℕ, ◌<◌, ◌≤◌, List, ◌∙◌, sym, subst}
 use Rattle.argot_plain.specs.declared.instructions.Kind.TheVariants.{Branch}
 use Rattle.argot_ssa_show.specs.Sample.{IsAllowed}
 use Rattle.argot_ssa_show.specs.Sample.IsAllowed.{by_branch}

@@ -16,4 +16,4 @@ returns c =
     let results : AreResults n c.in-Some.to.items = rw c.in-Some.is at c.in_ok-to.ensures in
     let At : List ℕ → List ℕ → Type 0 = λ ts xs. IsAllowed c.args.exit n (Call ts (Value c.args.callee) xs) in
     subst (λ ts. At ts c.from_vec-args.result) (sym to) (subst (At c.in-Some.to.items) (sym args)
-      (by_call (results_distinct n results) (results_below n results) callee (λ s m. in_each (λ x. x < n) s fit m)))
+    (by_call (results_distinct n results) (results_below n results) callee (λ s m. in_each (λ x. x < n) s fit m)))

@@ -1,5 +1,4 @@
-use Rattle.std.proofs.Common.{◌≡◌, ℕ, ◌+◌, ◌∷◌, List, [], length, length-append, ap, ◌∙◌, sym, subst, rules, arith}
-use Rattle.argot_plain.specs.declared.instructions.Kind.{Kind}
+use Rattle.std.proofs.Common.{◌+◌, ◌∷◌, [], length, length-append, ap, ◌∙◌, sym, subst}
 use Rattle.argot_ssa_show.specs.Sample.{AreAllowed, IsAllowed}
 use Rattle.argot_ssa_show.proofs.Numbers.{allowed_push}
 use Rattle.argot_ssa_show.proofs.reading.read_all.Goals as goal
@@ -11,5 +10,5 @@ loop-line-preserved c =
     let pushed = c.in_ok-push.ensures.items in
     record {
       allowed = subst (AreAllowed c.args.exit c.args.registers) (sym pushed) (allowed_push c.args.exit c.args.registers c.loop-line.kinds.items c.in-Some.kind i.allowed kind);
-      count = ap length pushed ∙ length-append c.loop-line.kinds.items (c.in-Some.kind ∷ []) ∙ ap (λ n. n + 1) i.count
+      count = ap length pushed ∙ length-append c.loop-line.kinds.items (c.in-Some.kind ∷ []) ∙ ap (λ n. n + 1) i.count;
     }

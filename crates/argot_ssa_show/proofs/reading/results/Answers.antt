@@ -1,4 +1,4 @@
-use Rattle.std.proofs.Common.{◌≡◌, ℕ, ◌<◌, ◌∷◌, ◌++◌, List, [], ap, ◌∙◌, sym, subst, arith}
+use Rattle.std.proofs.Common.{◌≡◌, ◌<◌, ◌∷◌, ◌++◌, [], ap, ◌∙◌, sym, subst, arith}
 use Rattle.argot_ssa_show.specs.Sample.{AreResults}
 use Rattle.argot_ssa_show.specs.Sample.AreResults.{none, one}
 use Rattle.argot_ssa_show.proofs.reading.results.Goals as goal

@@ -1,7 +1,5 @@
-use Rattle.std.proofs.Common.{◌≡◌, ℕ, ◌+◌, ◌∷◌, List, [], codes, length, sym, ap, subst, ◌∙◌, rules, arith}
-use Rattle.argot_plain.specs.Code.{Code}
-use Rattle.argot_plain.specs.WellFormed.{WellFormed}
-use Rattle.argot_ssa_show.specs.Sample.{sample, entry_of, instrs_of}
+use Rattle.std.proofs.Common.{◌≡◌, ◌+◌, ◌∷◌, [], codes, length, ap, ◌∙◌, arith}
+use Rattle.argot_ssa_show.specs.Sample.{entry_of, instrs_of}
 use Rattle.argot_ssa_show.proofs.Built.{built_well}
 use Rattle.argot_ssa_show.proofs.sample.program_of.Goals as goal
 
