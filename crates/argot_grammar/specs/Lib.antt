@@ -1,4 +1,2 @@
-pub mod Links
-pub mod Linker
 pub mod Sorts
 pub mod Parts

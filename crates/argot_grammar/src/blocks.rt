@@ -8,9 +8,11 @@ ghost use Rattle.argot_spelling.specs.StatementReader.{label_by};
 ghost use Rattle.argot_spelling.specs.Reader.{read};
 
 use crate::fields::closed_by_brace;
-use crate::peek::{ends_stmt_at, ends_stmts_at, is_label, is_mark, is_name, semicolon_at};
 use crate::statements::stmt;
-use crate::writer::{Writer, close, close_all, expect, missing, put, undo};
+use argot_steps::{
+    Writer, close, close_all, ends_stmt_at, ends_stmts_at, expect, is_label, is_mark, is_name,
+    missing, put, semicolon_at, undo,
+};
 use argot_text::Memory;
 use argot_tree::{Mark, NodeKind, Token};
 

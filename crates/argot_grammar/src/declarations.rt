@@ -12,11 +12,11 @@ ghost use Rattle.argot_spelling.specs.Reader.{read};
 
 use crate::expressions::expressions;
 use crate::fields::names;
-use crate::peek::{
-    is_generic, is_mark, is_name, is_word, no_bracket_at, opens_bracket, semicolon_at, type_at,
-};
 use crate::types::any_type;
-use crate::writer::{Writer, close, expect, missing, put, undo};
+use argot_steps::{
+    Writer, close, expect, is_generic, is_mark, is_name, is_word, missing, no_bracket_at,
+    opens_bracket, put, semicolon_at, type_at, undo,
+};
 use argot_text::Memory;
 use argot_tree::{Keyword, Mark, NodeKind, Token};
 

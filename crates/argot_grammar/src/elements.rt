@@ -7,8 +7,7 @@ ghost use Rattle.argot_spelling.specs.Reading.{The, Gives};
 ghost use Rattle.argot_spelling.specs.Reader.{read};
 
 use crate::expressions::level;
-use crate::peek::{goes_on, is_mark};
-use crate::writer::{Writer, close, expect_list, missing, put, undo};
+use argot_steps::{Writer, close, expect_list, goes_on, is_mark, missing, put, undo};
 use argot_text::Memory;
 use argot_tree::{Mark, NodeKind, Token};
 

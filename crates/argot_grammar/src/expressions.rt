@@ -4,15 +4,12 @@
 ghost use Rattle.std.specs.Prelude.{◌≡◌, IfOk, Some};
 ghost use Rattle.argot_tree.specs.Grammar.{Level, Exprs, Either, Eithers};
 ghost use Rattle.argot_spelling.specs.Reading.{The, UnaryOr, PrimaryOr, Climb, MoreExprs, Gives};
-ghost use Rattle.argot_spelling.specs.ExpressionReader.{climbs, is_type, typed};
+ghost use Rattle.argot_spelling.specs.ExpressionReader.{climbs};
 ghost use Rattle.argot_spelling.specs.Reader.{read};
 
-use crate::arrows::recast;
 use crate::operands::operand;
-use crate::peek::{goes_on, is_mark, level_at, unary_at};
 use crate::suffixes::suffixes;
-use crate::writer::{Writer, close, undo};
-use argot_spelling::Post;
+use argot_steps::{Writer, close, goes_on, is_mark, level_at, recast, typed, unary_at, undo};
 use argot_text::Memory;
 use argot_tree::{Mark, NodeKind, Token};
 
@@ -21,34 +18,6 @@ fn climbs(lowest: usize, limit: usize, level: usize) -> bool
     ensures { result ≡ climbs lowest limit level }
 {
     1 <= level && (lowest <= level && level <= limit)
-}
-
-fn is_type(kind: NodeKind) -> bool
-    ensures { result ≡ is_type kind }
-{
-    matches!(
-        kind,
-        NodeKind::PointerType
-            | NodeKind::ArrayType
-            | NodeKind::SliceType
-            | NodeKind::MapType
-            | NodeKind::ChanType
-            | NodeKind::SendType
-            | NodeKind::ReceiveType
-            | NodeKind::FuncType
-            | NodeKind::StructType
-            | NodeKind::InterfaceType
-    )
-}
-
-// Whether the last node is that of a type that is no expression.
-fn typed(posts: &[Post]) -> bool
-    ensures { result ≡ typed posts.now }
-{
-    match posts.last() {
-        Some(post) => is_type(post.kind),
-        None => false,
-    }
 }
 
 /// An expression whose outermost operator binds at this level or tighter; braces may stand behind a bare type name where

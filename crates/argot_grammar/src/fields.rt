@@ -8,11 +8,12 @@ ghost use Rattle.argot_spelling.specs.Reading.{The, Gives, is_mark};
 ghost use Rattle.argot_spelling.specs.TypeReader.{embedded_by, tag_by, named_field_by};
 ghost use Rattle.argot_spelling.specs.Reader.{read};
 
-use crate::notes::{name_behind_comma, type_behind_names};
-use crate::peek::{is_mark, is_name, names_then_type, semicolon_at, text_at};
 use crate::signatures::signature;
 use crate::types::{any_type, named_type};
-use crate::writer::{Writer, close, missing, put, undo};
+use argot_steps::{
+    Writer, close, is_mark, is_name, missing, name_behind_comma, names_then_type, put,
+    semicolon_at, text_at, type_behind_names, undo,
+};
 use argot_text::Memory;
 use argot_tree::{Mark, NodeKind, Token};
 

@@ -9,10 +9,12 @@ ghost use Rattle.argot_tree.specs.TokensAt.{kind_at, is_semicolon};
 
 use crate::blocks::block;
 use crate::expressions::level;
-use crate::notes::{paren_behind_first_guard, range_behind_define, values_behind_names};
-use crate::peek::{assign_at, defines, guards, is_mark, is_word, ranges, semicolon_at};
 use crate::statements::{assign, more_expressions_behind, simple, simple_behind};
-use crate::writer::{Writer, close, close_all, missing, put, undo};
+use argot_steps::{
+    Writer, assign_at, close, close_all, defines, guards, is_mark, is_word, missing,
+    paren_behind_first_guard, put, range_behind_define, ranges, semicolon_at, undo,
+    values_behind_names,
+};
 use argot_text::Memory;
 use argot_tree::{Keyword, Mark, NodeKind, Token};
 

@@ -12,10 +12,12 @@ ghost use Rattle.argot_spelling.specs.Reader.{read};
 use crate::blocks::block;
 use crate::expressions::level;
 use crate::heads::{opening, put_empty};
-use crate::peek::{clause_at, is_mark, is_word, range_at, ranges, semicolon_at};
 use crate::statements::{more_expressions_behind, simple};
 use crate::switches::clause;
-use crate::writer::{Writer, close, expect, missing, undo};
+use argot_steps::{
+    Writer, clause_at, close, expect, is_mark, is_word, missing, range_at, ranges, semicolon_at,
+    undo,
+};
 use argot_text::Memory;
 use argot_tree::{Keyword, Mark, NodeKind, Token};
 

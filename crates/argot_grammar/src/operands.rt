@@ -9,11 +9,12 @@ ghost use Rattle.argot_spelling.specs.Reader.{read};
 use crate::blocks::block;
 use crate::elements::elems;
 use crate::expressions::{either, level};
-use crate::notes::bracket_behind_dots;
-use crate::peek::{composite_at, conversion_at, is_mark, is_name, is_word, literal_at};
 use crate::signatures::signature;
 use crate::types::{any_type, named_type, only_type};
-use crate::writer::{Writer, close, expect, expect_list, keep, missing, put, undo};
+use argot_steps::{
+    Writer, bracket_behind_dots, close, composite_at, conversion_at, expect, expect_list, is_mark,
+    is_name, is_word, keep, literal_at, missing, put, undo,
+};
 use argot_text::Memory;
 use argot_tree::{Keyword, Mark, NodeKind, Token};
 

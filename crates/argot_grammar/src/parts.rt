@@ -12,10 +12,10 @@ use crate::blocks::block;
 use crate::declarations::decl;
 use crate::expressions::level;
 use crate::fault::ParseFault;
-use crate::linking::link;
 use crate::signatures::{params, signature};
 use crate::types::any_type;
-use crate::writer::{Writer, narrow};
+use argot_linking::link;
+use argot_steps::{Writer, narrow};
 use argot_text::{Memory, Sequence};
 use argot_tree::{Token, Tree};
 use std::alloc::Global;
@@ -67,7 +67,7 @@ fn longest(
         });
     };
     let behind = narrow(to)?;
-    let nodes = link(alloc, &out.posts)?;
+    let nodes = link(alloc, out.posts)?;
     let tree = Tree {
         nodes: Sequence::from_vec(nodes),
     };

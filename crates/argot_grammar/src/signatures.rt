@@ -7,9 +7,11 @@ ghost use Rattle.argot_spelling.specs.Reading.{The, Gives};
 ghost use Rattle.argot_spelling.specs.TypeReader.{result_by, listed_by};
 ghost use Rattle.argot_spelling.specs.Reader.{read};
 
-use crate::peek::{goes_on, is_mark, is_name, names_then_parameter, type_at};
 use crate::types::any_type;
-use crate::writer::{Writer, close, expect_list, missing, put, undo};
+use argot_steps::{
+    Writer, close, expect_list, goes_on, is_mark, is_name, missing, names_then_parameter, put,
+    type_at, undo,
+};
 use argot_text::Memory;
 use argot_tree::{Mark, NodeKind, Token};
 

@@ -14,12 +14,11 @@ use crate::expressions::{expressions, level};
 use crate::fields::names;
 use crate::heads::ifs;
 use crate::loops::{for_stmt, select_stmt};
-use crate::notes::values_behind_names;
-use crate::peek::{
-    assign_at, defines, ends_stmt_at, is_label, is_mark, is_name, kind_at, op_assign_at,
-};
 use crate::switches::switch_stmt;
-use crate::writer::{Writer, close, missing, put, undo};
+use argot_steps::{
+    Writer, assign_at, close, defines, ends_stmt_at, is_label, is_mark, is_name, kind_at, missing,
+    op_assign_at, put, undo, values_behind_names,
+};
 use argot_text::Memory;
 use argot_tree::{Keyword, Mark, NodeKind, Token, TokenKind};
 

@@ -8,9 +8,8 @@ ghost use Rattle.argot_spelling.specs.ExpressionReader.{suffix_by, dot_by, brack
 ghost use Rattle.argot_spelling.specs.Reader.{read};
 
 use crate::expressions::{eithers, level};
-use crate::peek::{is_mark, is_name};
 use crate::types::any_type;
-use crate::writer::{Writer, close, expect, expect_list, missing, put, undo};
+use argot_steps::{Writer, close, expect, expect_list, is_mark, is_name, missing, put, undo};
 use argot_text::Memory;
 use argot_tree::{Mark, NodeKind, Token};
 

@@ -4,45 +4,19 @@
 ghost use Rattle.std.specs.Prelude.{◌≡◌, ◌<◌, ◌≤◌, ◌+◌, length, IfOk, vec_len};
 ghost use Rattle.argot_tree.specs.Grammar.{Cases, Case};
 ghost use Rattle.argot_spelling.specs.Reading.{The, Gives, Settles};
-ghost use Rattle.argot_spelling.specs.StatementReader.{is_operation, is_primary, switched_by, tagged_by, named_guard_by, tag_by, init_by, defined_by, opened_switch_by, head_by, switch_by, clause_by};
+ghost use Rattle.argot_spelling.specs.StatementReader.{switched_by, tagged_by, named_guard_by, tag_by, init_by, defined_by, opened_switch_by, head_by, switch_by, clause_by};
 ghost use Rattle.argot_spelling.specs.Reader.{read};
 
 use crate::blocks::stmts;
-use crate::expressions::{eithers, level};
+use crate::expressions::{eithers, level, primary};
 use crate::heads::{opening, put_empty};
-use crate::notes::paren_behind_guard;
-use crate::peek::{clause_at, guards, is_mark, is_name, is_word, semicolon_at};
 use crate::statements::more_expressions_behind;
-use crate::writer::{Writer, close, expect, missing, put, undo};
-use argot_spelling::Post;
+use argot_steps::{
+    Writer, clause_at, close, expect, guards, is_mark, is_name, is_primary, is_word, missing,
+    paren_behind_guard, put, semicolon_at, undo,
+};
 use argot_text::Memory;
 use argot_tree::{Keyword, Mark, NodeKind, Token};
-
-fn is_operation(kind: NodeKind) -> bool
-    ensures { result ≡ is_operation kind }
-{
-    matches!(
-        kind,
-        NodeKind::Binary
-            | NodeKind::Positive
-            | NodeKind::Negative
-            | NodeKind::LogicalNot
-            | NodeKind::Complement
-            | NodeKind::Deref
-            | NodeKind::AddressOf
-            | NodeKind::Receive
-    )
-}
-
-/// Whether the last node is not that of an expression with an operator.
-pub fn is_primary(posts: &[Post]) -> bool
-    ensures { result ≡ is_primary posts.now }
-{
-    match posts.last() {
-        Some(post) => !is_operation(post.kind),
-        None => true,
-    }
-}
 
 // The cases of a `switch` whose head is read.
 #[cycle(reading)]
@@ -148,7 +122,7 @@ fn switch_tag(
     let since = out.posts.len();
     if is_name(tokens, at) && is_mark(tokens, at + 1, Mark::Define) {
         put(out, NodeKind::DeclName, at, at + 1)?;
-        let Some(mid) = level(tokens, out, fuel, 1, false, at + 2)? else {
+        let Some(mid) = primary(tokens, out, fuel, false, false, at + 2)? else {
             undo(out, mark);
             return Ok(None);
         };

@@ -9,10 +9,11 @@ ghost use Rattle.argot_spelling.specs.Reader.{read};
 
 use crate::expressions::level;
 use crate::fields::{elements, fields};
-use crate::notes::name_behind_dot;
-use crate::peek::{is_dotted, is_mark, is_name, is_word};
 use crate::signatures::signature;
-use crate::writer::{Writer, close, expect, missing, put, undo};
+use argot_steps::{
+    Writer, close, expect, is_dotted, is_mark, is_name, is_word, missing, name_behind_dot, put,
+    undo,
+};
 use argot_text::Memory;
 use argot_tree::{Keyword, Mark, NodeKind, Token};
 

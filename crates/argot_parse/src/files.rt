@@ -10,10 +10,8 @@ ghost use Rattle.argot_spelling.specs.Reader.{read};
 
 use crate::imports::imports;
 use crate::receivers::maybe_receiver;
-use argot_grammar::{
-    Writer, block, close, decl, is_mark, is_name, is_word, missing, put, semicolon_at, signature,
-    type_params, undo,
-};
+use argot_grammar::{block, decl, signature, type_params};
+use argot_steps::{Writer, close, is_mark, is_name, is_word, missing, put, semicolon_at, undo};
 use argot_text::Memory;
 use argot_tree::{Keyword, Mark, NodeKind, Token};
 

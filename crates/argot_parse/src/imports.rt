@@ -7,9 +7,9 @@ ghost use Rattle.argot_spelling.specs.Reading.{The, Gives, closed, put};
 ghost use Rattle.argot_spelling.specs.FileReader.{dot_spec_by, named_spec_by};
 ghost use Rattle.argot_spelling.specs.Reader.{read};
 
-use argot_grammar::{
-    Writer, close, closed_by_paren, expect, is_mark, is_name, is_word, missing, put, semicolon_at,
-    text_at, undo,
+use argot_grammar::closed_by_paren;
+use argot_steps::{
+    Writer, close, expect, is_mark, is_name, is_word, missing, put, semicolon_at, text_at, undo,
 };
 use argot_text::Memory;
 use argot_tree::{Keyword, Mark, NodeKind, Token};

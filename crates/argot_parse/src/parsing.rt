@@ -5,7 +5,9 @@ ghost use Rattle.argot_tree.specs.Trees.{SpellsTree};
 ghost use Rattle.argot_parse.specs.Parsed.{IsSyntax, IsUnparsed};
 
 use crate::files::file;
-use argot_grammar::{ParseFault, Writer, first_too_deep, link};
+use argot_grammar::ParseFault;
+use argot_linking::{first_too_deep, link};
+use argot_steps::Writer;
 use argot_text::Sequence;
 use argot_tree::{Token, Tree};
 use std::alloc::Global;
@@ -50,7 +52,7 @@ pub fn parse(alloc: Global, tokens: &Vec<Token>) -> Result<Tree, ParseFault>
     if to != tokens.len() {
         return Err(syntax(&out, to));
     }
-    let nodes = link(alloc, &out.posts)?;
+    let nodes = link(alloc, out.posts)?;
     Ok(Tree {
         nodes: Sequence::from_vec(nodes),
     })

@@ -1,8 +1,9 @@
 // What argot_grammar has that `parse` doesn't show: links of a small tree, the bound on nesting, and parts by themselves.
 ghost use Rattle.std.specs.Prelude.{◌<◌, ◌^◌, length};
 
-use argot_grammar::{ParseFault, Part, expression, first_too_deep, link, part};
+use argot_grammar::{ParseFault, Part, expression, part};
 use argot_lex::lex;
+use argot_linking::{first_too_deep, link};
 use argot_spelling::Post;
 use argot_tree::{Keyword, Mark, NodeKind, Token, TokenKind, Tree, TreeNode};
 use std::alloc::Global;
@@ -20,14 +21,14 @@ fn post(kind: NodeKind, token: u32, last: u32, size: u32) -> Post {
 
 #[test]
 fn nodes_come_in_preorder_with_their_links(rt: HostRuntime) -> Result<(), Fail> {
-    let behind = [
+    let behind = vec![in rt.alloc();
         post(NodeKind::DeclName, 1, 1, 1),
         post(NodeKind::ImportPath, 4, 4, 1),
         post(NodeKind::Spec, 4, 4, 2),
         post(NodeKind::Import, 3, 4, 3),
         post(NodeKind::File, 0, 5, 5),
-    ];
-    let nodes = link(rt.alloc(), &behind)?;
+    ]?;
+    let nodes = link(rt.alloc(), behind)?;
     let want = [
         (NodeKind::File, 0, 5, Some(1), None),
         (NodeKind::DeclName, 1, 1, None, Some(2)),

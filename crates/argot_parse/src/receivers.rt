@@ -7,9 +7,8 @@ ghost use Rattle.argot_spelling.specs.Reading.{The, Gives, closed, put};
 ghost use Rattle.argot_spelling.specs.FileReader.{named_receiver_by, bare_receiver_by};
 ghost use Rattle.argot_spelling.specs.Reader.{read};
 
-use argot_grammar::{
-    Writer, any_type, close, expect_list, is_mark, is_name, missing, put, type_at, undo,
-};
+use argot_grammar::any_type;
+use argot_steps::{Writer, close, expect_list, is_mark, is_name, missing, put, type_at, undo};
 use argot_text::Memory;
 use argot_tree::{Mark, NodeKind, Token};
 

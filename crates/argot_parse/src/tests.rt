@@ -27,6 +27,16 @@ File\tpackage p; import (\"a\" \"b\")\t6\n\
 File\tpackage p; import (a b \"c\")\t6\n\
 File\tpackage p;;\t3\n\
 File\tpackage p; x := 1\t3\n\
+File\tpackage p; import (\"fmt\"; m \"log\"; . \"os\"; _ \"io\"; \"strings\"); func\t20\n\
+File\tpackage p; type T struct { a, b int; c *p.T `tag`; d struct { e []string;\t27\n\
+File\tpackage p; type I interface { m(a int, b ...string) (int, error);\t22\n\
+File\tpackage p; func f(a, b int, c func(x string, ys ...int) (int, error\t25\n\
+File\tpackage p; func f() { x, y := g(a.b[1:n], h(c, func(\t29\n\
+File\tpackage p; var table = map[string][]T{\"a\": {1, 2}, \"b\": {{x: 1}, T{y\t34\n\
+File\tpackage p; func f() { if a := g(); a < 1 { return } else if b := h(a); b\t31\n\
+File\tpackage p; func f() { switch x := v.(type) { case int, *T: g(x); case [\t30\n\
+File\tpackage p; func f() { L: for i, v := range xs { for j := 0; j < len(v); j\t31\n\
+File\tpackage p; func f() { select { case v, ok := <-a: g(v, ok); case b <- h(1\t31\n\
 Top\tfunc f(int, b string)\tok\n\
 Top\tfunc f() {}\tok\n\
 Top\tfunc f()\tok\n\
@@ -448,6 +458,13 @@ Statement\tswitch a, b := c.(type) {}\t16\n\
 Statement\tswitch a = b.(type) {}\t14\n\
 Statement\tswitch -a.(type) {}\t13\n\
 Statement\tswitch a.(type); b {}\t14\n\
+Statement\tswitch a := 1; b := a < c {}\t16\n\
+Statement\tswitch a := 1; b := !a.(type) {}\t15\n\
+Statement\tswitch ; b := a {}\t13\n\
+Statement\tswitch a; b := a.(type) + 1 {}\t18\n\
+Statement\tswitch a; b := c, d {}\t14\n\
+Statement\tswitch a; b := (c).d[0].(type) {}\tok\n\
+Statement\tswitch ; b := <-c {}\t12\n\
 Statement\ta.(type)\t11\n\
 Statement\tselect { f() }\t10\n\
 Statement\tselect { case: }\t11\n\

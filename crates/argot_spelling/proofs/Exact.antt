@@ -3,7 +3,6 @@ pub mod Tokens
 pub mod Starts
 pub mod Claims
 pub mod Nodes
-pub mod Roots
 pub mod TypeParts
 pub mod OnlyTypes
 pub mod Arrows

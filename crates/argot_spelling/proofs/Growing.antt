@@ -1,6 +1,6 @@
 -- What is read is put behind what was there: the combinators.
-use Rattle.std.proofs.Common.{◌≡◌, ℕ, zero, suc, ◌+◌, ◌-◌, ◌≤◌, List, [], ◌∷◌, ◌++◌, length, take, reverse, subst, Bool, true, false, ◌&&◌, cond, Option, Some, None, refl, sym, ap, ◌∙◌, arith, append_assoc, length-append}
-use Rattle.std.proofs.lemmas.List.{append-nil, take_at, take_all}
+use Rattle.std.proofs.Common.{◌≡◌, ℕ, ◌+◌, ◌-◌, List, [], ◌∷◌, ◌++◌, length, reverse, Bool, cond, Option, Some, None, refl, sym, ap, ◌∙◌, arith, append_assoc}
+use Rattle.std.proofs.lemmas.List.{append-nil}
 use Rattle.std.proofs.lemmas.Bool.{cond_both}
 use Rattle.argot_tree.specs.declared.mark.Mark.{Mark}
 use Rattle.argot_tree.specs.declared.node_kind.NodeKind.{NodeKind}
@@ -10,7 +10,7 @@ use Rattle.argot_spelling.specs.declared.post.Post.{Post}
 use Rattle.std.specs.List.{remove}
 use Rattle.std.proofs.lemmas.List.Edits.{remove-append_right}
 use Rattle.argot_spelling.specs.ExpressionReader.{ending_with, with_kind}
-use Rattle.argot_spelling.specs.Reading.{Task, Answer, Reader, ◌>>=◌, try_on, closed, put, closing, closed_all, past, past_list, is_mark, behind_comma}
+use Rattle.argot_spelling.specs.Reading.{Task, Answer, Reader, ◌>>=◌, try_on, closed, closed_all, past, past_list, is_mark, behind_comma}
 
 pub record Extends (old new : List Post) : Type 0 where
   pub more : List Post

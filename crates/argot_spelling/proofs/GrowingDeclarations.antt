@@ -1,7 +1,6 @@
 -- What is read is put behind what was there: declarations.
-use Rattle.std.proofs.Common.{◌≡◌, ℕ, List, Bool, Option}
+use Rattle.std.proofs.Common.{ℕ, List}
 use Rattle.argot_tree.specs.declared.token.Token.{Token}
-use Rattle.argot_tree.specs.declared.token.TokenKind.{TokenKind}
 use Rattle.argot_tree.specs.Grammar.{Sort, Constant, Variable, TypeSort}
 use Rattle.argot_spelling.specs.declared.post.Post.{Post}
 use Rattle.argot_spelling.specs.Reading.{Task, Reader}

@@ -1,7 +1,6 @@
 -- What is read is put behind what was there: expressions.
-use Rattle.std.proofs.Common.{◌≡◌, ℕ, List, Bool, Option}
+use Rattle.std.proofs.Common.{ℕ, List, Bool}
 use Rattle.argot_tree.specs.declared.token.Token.{Token}
-use Rattle.argot_tree.specs.declared.token.TokenKind.{TokenKind}
 use Rattle.argot_spelling.specs.declared.post.Post.{Post}
 use Rattle.argot_spelling.specs.Reading.{Task, Reader}
 use Rattle.argot_spelling.specs.ExpressionReader.{level_by, either_by, climb_by, unary_by, primary_by, operand_by, suffix_by, suffixes_by, exprs_by, more_exprs_by, eithers_by, elems_by, items_by, item_by, value_by}

@@ -1,7 +1,6 @@
 -- What is read is put behind what was there: files.
-use Rattle.std.proofs.Common.{◌≡◌, ℕ, List, Bool, Option}
+use Rattle.std.proofs.Common.{ℕ, List}
 use Rattle.argot_tree.specs.declared.token.Token.{Token}
-use Rattle.argot_tree.specs.declared.token.TokenKind.{TokenKind}
 use Rattle.argot_spelling.specs.declared.post.Post.{Post}
 use Rattle.argot_spelling.specs.Reading.{Task, Reader}
 use Rattle.argot_spelling.specs.FileReader.{func_parts_by, file_by, imports_by, import_by, specs_by, spec_by, tops_by, top_by, maybe_receiver_by, receiver_by, maybe_type_params_by, type_params_by, in_brackets_by, balanced_by, maybe_body_by}

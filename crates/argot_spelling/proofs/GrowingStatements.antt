@@ -1,5 +1,5 @@
 -- What is read is put behind what was there: statements.
-use Rattle.std.proofs.Common.{◌≡◌, ℕ, List, Bool, Option, Some, None}
+use Rattle.std.proofs.Common.{ℕ, List, Bool, Option, Some}
 use Rattle.argot_tree.specs.declared.token.Token.{Token}
 use Rattle.argot_tree.specs.declared.token.TokenKind.{TokenKind}
 use Rattle.argot_tree.specs.declared.keyword.Keyword.TheVariants as words

@@ -1,7 +1,6 @@
 -- What is read is put behind what was there: types.
-use Rattle.std.proofs.Common.{◌≡◌, ℕ, List, Bool, Option}
+use Rattle.std.proofs.Common.{ℕ, List, Bool}
 use Rattle.argot_tree.specs.declared.token.Token.{Token}
-use Rattle.argot_tree.specs.declared.token.TokenKind.{TokenKind}
 use Rattle.argot_spelling.specs.declared.post.Post.{Post}
 use Rattle.argot_spelling.specs.Reading.{Task, Reader}
 use Rattle.argot_spelling.specs.TypeReader.{named_type_by, result_by, type_by, formed_by, signature_by, params_by, types_by, named_list_by, names_by, embedded_by, tag_by, field_by, fields_by, element_by, elements_by}

@@ -1,5 +1,5 @@
 -- What is read is put behind what was there.
-use Rattle.std.proofs.Common.{◌≡◌, ℕ, zero, suc, ◌≤◌, List, [], ◌++◌, length, take, Bool, false, Some, None, refl, ap, ◌∙◌, arith, length-append}
+use Rattle.std.proofs.Common.{◌≡◌, ℕ, zero, suc, ◌≤◌, List, [], length, take, Bool, false, Some, None, refl, ap, ◌∙◌, arith, length-append}
 use Rattle.std.proofs.lemmas.List.{take_at, take_all}
 use Rattle.argot_tree.specs.declared.token.Token.{Token}
 use Rattle.argot_tree.specs.TokensAt.{kind_at}
@@ -11,7 +11,7 @@ use Rattle.argot_spelling.specs.ExpressionReader.{suffix_by}
 use Rattle.argot_spelling.specs.StatementReader.{more_by, opening_by, condition_by, assign_by, simple_behind_by}
 use Rattle.argot_spelling.specs.FileReader.{in_brackets_by}
 use Rattle.argot_spelling.specs.Reader.{part_by, step, read}
-use Rattle.argot_spelling.proofs.Growing.{AlwaysGrows, Grows, Extends, same}
+use Rattle.argot_spelling.proofs.Growing.{AlwaysGrows, Grows, same}
 use Rattle.argot_spelling.proofs.GrowingFiles.{file_grows, imports_grows, import_grows, specs_grows, spec_grows, tops_grows, top_grows, receiver_grows, maybe_receiver_grows, maybe_type_params_grows, maybe_body_grows, type_params_grows, balanced_grows, in_brackets_grows}
 use Rattle.argot_spelling.proofs.GrowingDeclarations.{decl_grows, declared_grows, declared_list_grows, maybe_typed_grows, maybe_values_grows}
 use Rattle.argot_spelling.proofs.GrowingTypes.{named_grows, result_grows, names_grows, signature_grows, params_grows, types_grows, named_list_grows, type_grows, formed_grows, fields_grows, field_grows, embedded_grows, tag_grows, elements_grows, element_grows}

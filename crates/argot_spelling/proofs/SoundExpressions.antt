@@ -17,7 +17,7 @@ use Rattle.argot_spelling.specs.ExpressionReader.{climbs, typed, recast, ending_
 use Rattle.argot_spelling.proofs.TokenTests.{has_mark}
 use Rattle.argot_spelling.proofs.PostLaws.{closed_posts, joined}
 use Rattle.argot_spelling.proofs.Holding.{Holds, none, given, bind, try, weaken, choose}
-use Rattle.argot_spelling.proofs.Roots.{typed_root, operand_no_type, unary_no_type, only_is_type}
+use Rattle.argot_spelling.proofs.Roots.{rooted_typed, operand_root, unary_root, only_root}
 use Rattle.argot_spelling.proofs.Recasting.{IsRecast, recast_only}
 use Rattle.argot_spelling.proofs.SoundReads.{Has, HasOr, IsOr, IsOperand, Reads, IsSound, node}
 
@@ -57,13 +57,13 @@ climb_sound {tokens} {rec} g k limit b from mark at out =
     (λ _. given stay)
 
 is_typed : {tokens : List Token} {x : Forest} {from to : ℕ} (out new : List Post) → new ≡ out ++ posts x → Spells tokens OnlyType x from to → typed new ≡ true
-is_typed out new e s = ap typed e ∙ typed_root out (only_is_type s)
+is_typed {tokens} out new e s = ap typed e ∙ rooted_typed out (only_root tokens s)
 
 unary_untyped : {tokens : List Token} {b : Bool} {x : Forest} {from to : ℕ} (out new : List Post) → new ≡ out ++ posts x → Spells tokens (Unary b) x from to → typed new ≡ false
-unary_untyped out new e s = ap typed e ∙ typed_root out (unary_no_type s)
+unary_untyped {tokens} out new e s = ap typed e ∙ rooted_typed out (unary_root tokens s)
 
 operand_untyped : {tokens : List Token} {b : Bool} {x : Forest} {from to : ℕ} (out new : List Post) → new ≡ out ++ posts x → Spells tokens (Operand b) x from to → typed new ≡ false
-operand_untyped out new e s = ap typed e ∙ typed_root out (operand_no_type s)
+operand_untyped {tokens} out new e s = ap typed e ∙ rooted_typed out (operand_root tokens s)
 
 pub either_sound : {tokens : List Token} {rec : Reader} → IsSound tokens rec → (at : ℕ) (out : List Post) → Holds (Has tokens Either at out) (either_by tokens rec at out)
 either_sound {tokens} {rec} g at out =

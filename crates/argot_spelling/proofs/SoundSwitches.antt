@@ -12,11 +12,11 @@ use Rattle.argot_tree.specs.declared.token.TokenKind.TheVariants as kinds
 use Rattle.argot_tree.specs.declared.token.Token.{Token}
 use Rattle.argot_tree.specs.Forests.{Forest, leaf, beside, one, last_token}
 use Rattle.argot_tree.specs.TokensAt.{kind_at, HasAt, HasMark, HasWord, is_semicolon}
-use Rattle.argot_tree.specs.Grammar.{Level, Primary, Exprs, Stmt, Simple, Cases, MaybeInit, Spells, last_name, define, no_init, empty_init, an_init, switch, type_switch, no_tag_expr, tag_expr, guard, named_guard}
+use Rattle.argot_tree.specs.Grammar.{Level, Primary, Exprs, Stmt, Simple, Cases, MaybeInit, Spells, unary_level, primary, last_name, define, no_init, empty_init, an_init, switch, type_switch, no_tag_expr, tag_expr, guard, named_guard}
 use Rattle.argot_spelling.specs.declared.post.Post.{Post}
 use Rattle.argot_spelling.specs.Posts.{posts}
-use Rattle.argot_spelling.specs.Reading.{The, Reader, ◌>>=◌, closed, put, is_at, is_mark}
-use Rattle.argot_spelling.specs.StatementReader.{ending, put_empty, is_primary, ranges, guards, more_by, opening_by, switched_by, tagged_by, named_guard_by, tag_by, init_by, defined_by, head_by}
+use Rattle.argot_spelling.specs.Reading.{The, PrimaryOr, Reader, ◌>>=◌, closed, put, ending, is_at, is_mark}
+use Rattle.argot_spelling.specs.StatementReader.{put_empty, is_primary, ranges, guards, more_by, opening_by, switched_by, tagged_by, named_guard_by, tag_by, init_by, defined_by, head_by}
 use Rattle.argot_spelling.proofs.TokenTests.{has_at, has_mark, passes}
 use Rattle.argot_spelling.proofs.PostLaws.{closed_posts, put_posts, joined}
 use Rattle.argot_spelling.proofs.Holding.{Holds, none, given, bind, regroup, choose}
@@ -27,7 +27,7 @@ use Rattle.argot_spelling.proofs.SoundHeads.{begins_body, body_no_ranges, guards
 
 -- an expression whose last node is no operation's is a primary one
 pub primary_of : {tokens : List Token} {k : ℕ} {b : Bool} {x : Forest} {from to : ℕ} (out new : List Post) → Spells tokens (Level k b) x from to → new ≡ out ++ posts x → is_primary new ≡ true → Spells tokens (Primary b) x from to
-primary_of out new s e h = level_primary out s (ap is_primary (sym e) ∙ h)
+primary_of {tokens} out new s e h = level_primary tokens out s (ap is_primary (sym e) ∙ h)
 
 -- the cases of a `switch` whose head is read
 switched_sound : {tokens : List Token} {rec : Reader} → IsSound tokens rec → (kind : NodeKind) (from : ℕ) (base : List Post) (r : ℕ × List Post) (whole : Forest → Forest) → ((z : Forest) (new : List Post) → new ≡ r.1 ++ posts z → new ≡ base ++ posts (whole z)) → ((z : Forest) (to : ℕ) → HasMark tokens r.0 marks.OpenBrace → Spells tokens Cases z (r.0 + 1) to → HasMark tokens to marks.CloseBrace → Spells tokens Stmt (one kind from (to + 1) (whole z)) from (to + 1)) → Holds (Has tokens Stmt from base) (switched_by tokens rec kind from (length base) r)
@@ -80,7 +80,7 @@ tag_sound {tokens} {rec} g from at base out x w i eo =
     (λ _. switched_sound g nodes.Switch from base (at, out) (λ z. beside x z) (λ z new n. joined base out new x z eo n) (λ z to o c cl. switch w i no_tag_expr o c cl))
     (λ _. choose (is_at tokens at kinds.Name && is_mark tokens (at + 1) marks.Define)
     (λ e. let p = and_parts (is_at tokens at kinds.Name) (is_mark tokens (at + 1) marks.Define) e in
-    then g (Level 1 false) (at + 2) (put nodes.DeclName at (at + 1) out) (λ r h. named_guard_sound g from at base out r x h.0 w i eo (has_at at kinds.Name p.0) (has_mark (at + 1) marks.Define p.1) h.1 h.2))
+    bind (rec (PrimaryOr false false) (at + 2) (put nodes.DeclName at (at + 1) out)) (g.kept (PrimaryOr false false) (at + 2) (put nodes.DeclName at (at + 1) out)) (λ r h. named_guard_sound g from at base out r x h.0 w i eo (has_at at kinds.Name p.0) (has_mark (at + 1) marks.Define p.1) (unary_level (primary h.1)) h.2))
     (λ _. then g (Level 1 false) at out (λ r h. tagged_sound g from at base out r x h.0 w i eo (λ _. h.1) h.2)))
 
 init_sound : {tokens : List Token} {rec : Reader} → IsSound tokens rec → (from : ℕ) (base : List Post) (r : ℕ × List Post) → HasWord tokens from words.Switch → (is_semicolon (kind_at tokens r.0) ≡ true → Has tokens (Simple false) (from + 1) base r.0 r.1) → Holds (Has tokens Stmt from base) (init_by tokens rec from (length base) (from + 1) r)

@@ -1,5 +1,5 @@
 -- Reading of expressions, of an expression or a type, and of what stands in a composite literal, one step each.
-use Rattle.std.specs.Prelude.{◌≡◌, ℕ, ◌+◌, ◌-◌, ◌*◌, List, [], ◌∷◌, ◌++◌, take, drop, reverse, length, Bool, true, false, ◌&&◌, nat_le, Some, None, Option, if◌then◌else◌, slice_get}
+use Rattle.std.specs.Prelude.{◌≡◌, ℕ, ◌+◌, ◌-◌, List, [], ◌∷◌, ◌++◌, take, drop, reverse, length, Bool, true, false, ◌&&◌, nat_le, Some, None, Option, if◌then◌else◌, slice_get}
 use Rattle.argot_tree.specs.declared.keyword.Keyword.TheVariants as words
 use Rattle.argot_tree.specs.declared.mark.Mark.TheVariants as marks
 use Rattle.argot_tree.specs.declared.node_kind.NodeKind.{NodeKind}
@@ -7,10 +7,10 @@ use Rattle.argot_tree.specs.declared.node_kind.NodeKind.TheVariants as nodes
 use Rattle.argot_tree.specs.declared.token.TokenKind.TheVariants as kinds
 use Rattle.argot_tree.specs.declared.token.Token.{Token}
 use Rattle.argot_tree.specs.TokensAt.{kind_at, is_literal, begins_conversion, begins_composite, level_at, unary_of}
-use Rattle.argot_tree.specs.Grammar.{AnyType, OnlyType, Signature, Level, Exprs, Either, Eithers, Elems, Items, Item, Value, Block}
+use Rattle.argot_tree.specs.Grammar.{AnyType, OnlyType, Signature, Level, Either, Eithers, Elems, Items, Item, Value, Block}
 use Rattle.argot_spelling.specs.declared.post.Post.{Post}
-use Rattle.argot_spelling.specs.Reading.{The, UnaryOr, PrimaryOr, OperandOr, Climb, Suffixes, MoreExprs, Answer, Reader, ◌>>=◌, try_on, closed, put, closing, is_at, is_word, is_mark, past, past_list, goes_on}
-use Rattle.argot_spelling.specs.TypeReader.{is_dotted, named_type_by}
+use Rattle.argot_spelling.specs.Reading.{The, UnaryOr, PrimaryOr, OperandOr, Climb, Suffixes, MoreExprs, Answer, Reader, ◌>>=◌, try_on, closed, put, closing, ending, is_at, is_word, is_mark, past, past_list, goes_on}
+use Rattle.argot_spelling.specs.TypeReader.{named_type_by}
 
 abbrev pub climbs : ℕ → ℕ → ℕ → Bool
 climbs k limit level = nat_le 1 level && (nat_le k level && nat_le level limit)
@@ -82,10 +82,6 @@ starred types at out r = if types && typed r.1 then closing nodes.PointerType at
 abbrev pub stay_by : Bool → ℕ × List Post → Answer
 stay_by types r = if types then Some r else None
 
--- a node over what was read since a mark
-abbrev pub closing_since : NodeKind → ℕ → ℕ → ℕ × List Post → Answer
-closing_since kind from mark r = Some (r.0, closed kind from r.0 mark r.1)
-
 -- the kind where there is one
 abbrev pub with_kind : Option NodeKind → (NodeKind → Answer) → Answer → Answer
 with_kind None f other = other
@@ -102,14 +98,14 @@ module _ (tokens : List Token) where
 
   -- a bracket's end
   abbrev pub bracket_end : NodeKind → ℕ → ℕ → ℕ × List Post → Answer
-  bracket_end kind from mark r = past tokens marks.CloseBracket r >>= closing_since kind from mark
+  bracket_end kind from mark r = past tokens marks.CloseBracket r >>= ending kind from mark
 
   -- arguments, and what closes them
   abbrev pub arguments_by : ℕ → ℕ → ℕ × List Post → Answer
   arguments_by from mark r =
       if is_mark tokens r.0 marks.Ellipsis
-      then (past_list tokens marks.CloseParen (r.0 + 1, r.1) >>= closing_since nodes.SpreadCall from mark)
-      else (past_list tokens marks.CloseParen r >>= closing_since nodes.Call from mark)
+      then (past_list tokens marks.CloseParen (r.0 + 1, r.1) >>= ending nodes.SpreadCall from mark)
+      else (past_list tokens marks.CloseParen r >>= ending nodes.Call from mark)
 
 module _ (tokens : List Token) (rec : Reader) where
   abbrev pub level_by : ℕ → Bool → ℕ → List Post → Answer
@@ -139,21 +135,21 @@ module _ (tokens : List Token) (rec : Reader) where
   abbrev pub converted_by : Bool → ℕ → ℕ → ℕ × List Post → Answer
   converted_by types from mark r =
       if is_mark tokens r.0 marks.OpenParen
-      then try_on (rec (The (Level 1 true)) (r.0 + 1) r.1 >>= past_list tokens marks.CloseParen) (closing_since nodes.Conversion from mark) (stay_by types r)
+      then try_on (rec (The (Level 1 true)) (r.0 + 1) r.1 >>= past_list tokens marks.CloseParen) (ending nodes.Conversion from mark) (stay_by types r)
       else stay_by types r
 
   -- or elements
   abbrev pub behind_type_by : Bool → ℕ → ℕ → ℕ × List Post → Answer
   behind_type_by types from mark r =
       if begins_composite (kind_at tokens from) && is_mark tokens r.0 marks.OpenBrace
-      then try_on (rec (The Elems) r.0 r.1) (closing_since nodes.Composite from mark) (stay_by types r)
+      then try_on (rec (The Elems) r.0 r.1) (ending nodes.Composite from mark) (stay_by types r)
       else converted_by types from mark r
 
   -- behind a signature: a body, or it is a type
   abbrev pub behind_signature_by : Bool → ℕ → ℕ → ℕ × List Post → Answer
   behind_signature_by types from mark r =
       if is_mark tokens r.0 marks.OpenBrace
-      then try_on (rec (The Block) r.0 r.1) (closing_since nodes.FuncLiteral from mark) (stay_by types (r.0, closed nodes.FuncType from r.0 mark r.1))
+      then try_on (rec (The Block) r.0 r.1) (ending nodes.FuncLiteral from mark) (stay_by types (r.0, closed nodes.FuncType from r.0 mark r.1))
       else converted_by types from mark (r.0, closed nodes.FuncType from r.0 mark r.1)
 
   abbrev pub func_by : Bool → ℕ → List Post → Answer
@@ -197,7 +193,7 @@ module _ (tokens : List Token) (rec : Reader) where
       if is_at tokens (at + 1) kinds.Name
       then Some (at + 2, closed nodes.Selector from (at + 2) mark (put nodes.SelectedName (at + 1) (at + 2) out))
       else (if is_mark tokens (at + 1) marks.OpenParen
-      then ((rec (The AnyType) (at + 2) out >>= past tokens marks.CloseParen) >>= closing_since nodes.TypeAssertion from mark)
+      then ((rec (The AnyType) (at + 2) out >>= past tokens marks.CloseParen) >>= ending nodes.TypeAssertion from mark)
       else None)
 
   -- a colon behind the second of them, and a third

@@ -1,10 +1,10 @@
 -- Reading from left to right, computed, in at most so many steps, one inside another.
-use Rattle.std.specs.Prelude.{ℕ, zero, suc, List, [], Bool, false, Option, Some, None}
+use Rattle.std.specs.Prelude.{ℕ, zero, suc, List, [], false, Some, None}
 use Rattle.argot_tree.specs.declared.token.Token.{Token}
 use Rattle.argot_tree.specs.TokensAt.{kind_at}
 use Rattle.argot_tree.specs.Grammar.{Part, File, Imports, Import, Specs, Spec, Tops, Top, Receiver, MaybeReceiver, MaybeTypeParams, MaybeBody, Decl, Declared, DeclaredList, MaybeTyped, MaybeValues, TypeParams, Balanced, Names, Signature, Params, Types, NamedList, AnyType, OnlyType, Fields, Field, Embedded, MaybeTag, Elements, Element, Level, Unary, Primary, Operand, Exprs, Either, Eithers, Elems, Items, Item, Value, Block, Stmts, Stmt, Simple, MaybeLabel, MaybeInit, If, MaybeElse, MaybeSwitched, TypeGuard, Cases, Case, Comms, Comm, MaybeCondition, MaybePost}
 use Rattle.argot_spelling.specs.declared.post.Post.{Post}
-use Rattle.argot_spelling.specs.Reading.{Task, The, UnaryOr, PrimaryOr, OperandOr, Climb, Suffixes, MoreExprs, Ifs, Labels, Answer, Reader}
+use Rattle.argot_spelling.specs.Reading.{The, UnaryOr, PrimaryOr, OperandOr, Climb, Suffixes, MoreExprs, Ifs, Labels, Answer, Reader}
 use Rattle.argot_spelling.specs.TypeReader.{type_by, formed_by, signature_by, params_by, types_by, named_list_by, names_by, embedded_by, tag_by, field_by, fields_by, element_by, elements_by}
 use Rattle.argot_spelling.specs.ExpressionReader.{level_by, either_by, climb_by, unary_by, primary_by, operand_by, suffixes_by, exprs_by, more_exprs_by, eithers_by, elems_by, items_by, item_by, value_by}
 use Rattle.argot_spelling.specs.StatementReader.{block_by, stmts_by, stmt_by, labels_by, simple_by, maybe_label_by, ifs_by, cases_by, case_by, comms_by, comm_by, maybe_condition_by, maybe_post_by}

@@ -1,16 +1,15 @@
 -- What reading from left to right is made of: where a part ends, and the nodes with those of the part behind them.
-use Rattle.std.specs.Prelude.{◌≡◌, ℕ, ◌+◌, ◌-◌, ◌*◌, ◌==◌, List, [], ◌∷◌, ◌++◌, length, take, drop, Bool, true, false, ◌&&◌, nat_le, Option, Some, None, if◌then◌else◌, slice_get}
+use Rattle.std.specs.Prelude.{◌≡◌, ℕ, ◌+◌, ◌-◌, ◌==◌, List, [], ◌∷◌, ◌++◌, length, take, drop, Bool, true, false, ◌&&◌, Option, Some, None, if◌then◌else◌}
 use Rattle.argot_tree.specs.declared.keyword.Keyword.{Keyword}
 use Rattle.argot_tree.specs.declared.keyword.Keyword.TheVariants as words
 use Rattle.argot_tree.specs.declared.mark.Mark.{Mark}
 use Rattle.argot_tree.specs.declared.mark.Mark.TheVariants as marks
 use Rattle.argot_tree.specs.declared.node_kind.NodeKind.{NodeKind}
-use Rattle.argot_tree.specs.declared.node_kind.NodeKind.TheVariants as nodes
 use Rattle.argot_tree.specs.declared.token.TokenKind.{TokenKind}
 use Rattle.argot_tree.specs.declared.token.TokenKind.TheVariants as kinds
 use Rattle.argot_tree.specs.declared.token.Token.{Token}
 use Rattle.argot_tree.specs.Forests.{last_token}
-use Rattle.argot_tree.specs.TokensAt.{kind_at, begins_type}
+use Rattle.argot_tree.specs.TokensAt.{kind_at}
 use Rattle.argot_tree.specs.Grammar.{Part}
 use Rattle.argot_spelling.specs.declared.post.Post.{Post}
 
@@ -154,6 +153,10 @@ put kind from to out = closed kind from to (length out) out
 -- a node over what was read since a place
 abbrev pub closing : NodeKind → ℕ → List Post → ℕ × List Post → Answer
 closing kind from out r = Some (r.0, closed kind from r.0 (length out) r.1)
+
+-- the same since a mark
+abbrev pub ending : NodeKind → ℕ → ℕ → ℕ × List Post → Answer
+ending kind from mark r = Some (r.0, closed kind from r.0 mark r.1)
 
 -- a node over each of these, the first the innermost
 abbrev pub closed_all : NodeKind → List (ℕ × ℕ) → ℕ → List Post → List Post

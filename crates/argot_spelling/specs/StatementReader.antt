@@ -11,11 +11,7 @@ use Rattle.argot_tree.specs.declared.token.Token.{Token}
 use Rattle.argot_tree.specs.TokensAt.{kind_at, is_semicolon, is_op_assign}
 use Rattle.argot_tree.specs.Grammar.{Level, Exprs, Eithers, Names, Decl, Block, Stmts, Stmt, Simple, MaybeLabel, Cases, Case, Comms, Comm, MaybeCondition, MaybePost}
 use Rattle.argot_spelling.specs.declared.post.Post.{Post}
-use Rattle.argot_spelling.specs.Reading.{The, Ifs, Labels, Answer, Reader, ◌>>=◌, closed, put, closing, closed_all, is_at, is_word, is_mark, past, behind_names}
-
--- a node over what was read since a mark
-abbrev pub ending : NodeKind → ℕ → ℕ → ℕ × List Post → Answer
-ending kind from mark r = Some (r.0, closed kind from r.0 mark r.1)
+use Rattle.argot_spelling.specs.Reading.{The, PrimaryOr, Ifs, Labels, Answer, Reader, ◌>>=◌, closed, put, closing, ending, closed_all, is_at, is_word, is_mark, past, behind_names}
 
 -- a node over these nodes and an empty statement
 abbrev pub put_empty : NodeKind → ℕ → List Post → List Post
@@ -261,7 +257,7 @@ module _ (tokens : List Token) where
   tag_by rec from mark at out =
       if is_mark tokens at marks.OpenBrace then switched_by rec nodes.Switch from mark (at, out)
       else (if is_at tokens at kinds.Name && is_mark tokens (at + 1) marks.Define
-      then rec (The (Level 1 false)) (at + 2) (put nodes.DeclName at (at + 1) out) >>= named_guard_by rec from mark at (length out)
+      then rec (PrimaryOr false false) (at + 2) (put nodes.DeclName at (at + 1) out) >>= named_guard_by rec from mark at (length out)
       else (rec (The (Level 1 false)) at out >>= tagged_by rec from mark at (length out)))
 
   -- behind the first statement of the head

@@ -1,5 +1,5 @@
 -- Reading of types, signatures and parameters, fields and elements of interfaces, one step each.
-use Rattle.std.specs.Prelude.{ℕ, ◌+◌, ◌*◌, List, length, Bool, true, false, ◌&&◌, ◌||◌, Some, None, Option, if◌then◌else◌}
+use Rattle.std.specs.Prelude.{ℕ, ◌+◌, List, length, Bool, true, false, ◌&&◌, ◌||◌, Some, None, Option, if◌then◌else◌}
 use Rattle.argot_tree.specs.declared.keyword.Keyword.TheVariants as words
 use Rattle.argot_tree.specs.declared.mark.Mark.TheVariants as marks
 use Rattle.argot_tree.specs.declared.node_kind.NodeKind.TheVariants as nodes

@@ -1,13 +1,12 @@
 -- A channel's type with an arrow before it is read, alone and where an expression may stand too: there each arrow is first
 -- taken for an operator, and what was read is recast.
 use Rattle.std.proofs.Common.{◌≡◌, ℕ, ◌+◌, ◌-◌, ◌<◌, ◌≤◌, List, [], ◌∷◌, ◌++◌, length, true, false, Some, refl, sym, ap, ◌∙◌, ⊎_elim, arith, append_assoc, length-append}
-use Rattle.std.specs.Prelude.{◌==◌, reverse}
+use Rattle.std.specs.Prelude.{reverse}
 use Rattle.std.proofs.lemmas.List.{reverse-append, reverse-reverse}
 use Rattle.std.proofs.Math.Seq.{drop-append_seam}
-use Rattle.std.proofs.lemmas.Bool.{ne_eqb, cases_Bool}
+use Rattle.std.proofs.lemmas.Bool.{cases_Bool}
 use Rattle.argot_tree.specs.declared.keyword.Keyword.TheVariants as words
 use Rattle.argot_tree.specs.declared.mark.Mark.TheVariants as marks
-use Rattle.argot_tree.specs.declared.node_kind.NodeKind.{NodeKind}
 use Rattle.argot_tree.specs.declared.node_kind.NodeKind.TheVariants as nodes
 use Rattle.argot_tree.specs.declared.token.TokenKind.TheVariants as kinds
 use Rattle.argot_tree.specs.declared.token.Token.{Token}
@@ -24,23 +23,12 @@ use Rattle.argot_spelling.proofs.Steps.{read_more}
 use Rattle.argot_spelling.proofs.TokenTests.{has_mark}
 use Rattle.argot_spelling.proofs.PostLaws.{length-posts}
 use Rattle.argot_spelling.proofs.Exact.Nodes.{over}
-use Rattle.argot_spelling.proofs.Exact.Roots.{last_post}
+use Rattle.argot_spelling.proofs.Recasting.{recast_one}
+use Rattle.argot_spelling.proofs.Roots.{last_post}
 use Rattle.argot_spelling.proofs.Exact.Ahead.{ahead}
 use Rattle.argot_spelling.proofs.Exact.Tokens.{Not, by_word, within_mark, within_word}
 use Rattle.argot_spelling.proofs.Exact.Claims.{Recasts, OfType, OfOnlyType}
 use Rattle.argot_spelling.proofs.Exact.TypeParts.{ending, undotted, stands_among}
-
-last_same : (from to : ℕ) → from + 2 ≤ to → last_token (from + 1) to ≡ last_token from to
-last_same from to h =
-    let one_not : (from + 1 == to) ≡ false = ne_eqb (from + 1) to (λ e. absurd (omega (arith, e))) in
-    let not_one : (from == to) ≡ false = ne_eqb from to (λ e. absurd (omega (arith, e))) in
-    simp (one_not, not_one)
-
-recast_one : (kind : NodeKind) (from to long : ℕ) (x : Forest) → from + 2 ≤ to → long ≡ size x + 1 → received (record { kind = kind; token = from + 1; last = last_token (from + 1) to; size = long }) ≡ record { kind = nodes.ReceiveType; token = from; last = last_token from to; size = size x + 1 }
-recast_one kind from to long x h e =
-    let place : from + 1 - 1 ≡ from = omega arith in
-    let last = last_same from to h in
-    λ i. record { kind = nodes.ReceiveType; token = place i; last = last i; size = e i }
 
 module _ (tokens : List Token) where
   chan_recast : {x : Forest} {from to : ℕ} → HasWord tokens (from + 1) words.Chan → is_mark tokens (from + 2) marks.Arrow ≡ false → Spells tokens AnyType x (from + 2) to → OfType tokens x (from + 2) to → (n : ℕ) (out : List Post) → room tokens (from + 1) 1 ≤ n → Not tokens to (kinds.Mark marks.Dot) → Recasts tokens n out (one nodes.ReceiveType from to x) from to

@@ -14,10 +14,10 @@ use Rattle.argot_tree.specs.Grammar.{Part, Spells, File, Imports, Import, Specs,
 use Rattle.argot_spelling.specs.declared.post.Post.{Post}
 use Rattle.argot_spelling.specs.Posts.{posts}
 use Rattle.argot_spelling.specs.Rooms.{room}
-use Rattle.argot_spelling.specs.Reading.{Task, The, UnaryOr, PrimaryOr, OperandOr, Climb, Suffixes, MoreExprs, Ifs, Labels, ◌>>=◌, closed_all, is_mark, goes_on}
+use Rattle.argot_spelling.specs.Reading.{Task, The, UnaryOr, PrimaryOr, OperandOr, Climb, Suffixes, MoreExprs, Ifs, Labels, ◌>>=◌, ending, closed_all, is_mark, goes_on}
 use Rattle.argot_spelling.specs.TypeReader.{is_dotted, named_type_by, tag_by}
 use Rattle.argot_spelling.specs.ExpressionReader.{typed, recast}
-use Rattle.argot_spelling.specs.StatementReader.{ends_stmt, ends_stmts, ending, guards, more_by, opening_by, else_by}
+use Rattle.argot_spelling.specs.StatementReader.{ends_stmt, ends_stmts, guards, more_by, opening_by, else_by}
 use Rattle.argot_spelling.specs.FileReader.{is_end}
 use Rattle.argot_spelling.specs.Reader.{read}
 use Rattle.argot_spelling.proofs.Exact.Tokens.{Not, EndsList, stops, ends_simple, ends_spec}

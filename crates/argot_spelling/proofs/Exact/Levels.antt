@@ -21,7 +21,7 @@ use Rattle.argot_spelling.specs.Reader.{read}
 use Rattle.argot_spelling.proofs.Steps.{read_more}
 use Rattle.argot_spelling.proofs.TokenTests.{has_mark}
 use Rattle.argot_spelling.proofs.Exact.Nodes.{over, over_two}
-use Rattle.argot_spelling.proofs.Exact.Roots.{rooted_typed, unary_root, operand_root, only_root}
+use Rattle.argot_spelling.proofs.Roots.{rooted_typed, unary_root, operand_root, only_root}
 use Rattle.argot_spelling.proofs.Exact.Ahead.{ahead}
 use Rattle.argot_spelling.proofs.Exact.Starts.{starts}
 use Rattle.argot_spelling.proofs.Exact.Tokens.{apart, stops, follows, begins_operand, by_test, within_mark, within_pass}

@@ -15,7 +15,7 @@ use Rattle.argot_spelling.specs.Rooms.{room}
 use Rattle.argot_spelling.specs.Reading.{The, UnaryOr, PrimaryOr, OperandOr, is_mark, is_word}
 use Rattle.argot_spelling.proofs.Steps.{read_more}
 use Rattle.argot_spelling.proofs.Exact.Nodes.{over, over_two}
-use Rattle.argot_spelling.proofs.Exact.Roots.{rooted_typed, only_root}
+use Rattle.argot_spelling.proofs.Roots.{rooted_typed, only_root}
 use Rattle.argot_spelling.proofs.Exact.Ahead.{ahead}
 use Rattle.argot_spelling.proofs.Exact.Starts.{starts}
 use Rattle.argot_spelling.proofs.Exact.Tokens.{Not, other, apart, lacking, at_mark, at_word, by_mark, by_word, within_mark, within_word}

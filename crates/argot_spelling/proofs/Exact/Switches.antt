@@ -15,7 +15,7 @@ use Rattle.argot_tree.specs.Grammar.{Spells, Level, Primary, Cases, Stmt, Simple
 use Rattle.argot_spelling.specs.declared.post.Post.{Post}
 use Rattle.argot_spelling.specs.Posts.{posts}
 use Rattle.argot_spelling.specs.Rooms.{room}
-use Rattle.argot_spelling.specs.Reading.{The, Suffixes, closed, is_at, is_mark}
+use Rattle.argot_spelling.specs.Reading.{The, PrimaryOr, Suffixes, closed, is_at, is_mark}
 use Rattle.argot_spelling.specs.StatementReader.{switched_by, tag_by, head_by}
 use Rattle.argot_spelling.specs.Reader.{read}
 use Rattle.argot_spelling.proofs.Steps.{read_more}
@@ -23,7 +23,7 @@ use Rattle.argot_spelling.proofs.TokenTests.{has_at, has_mark}
 use Rattle.argot_spelling.proofs.SoundSwitches.{unnamed}
 use Rattle.argot_spelling.proofs.PostLaws.{put_posts, closed_posts}
 use Rattle.argot_spelling.proofs.Exact.Nodes.{over, over_two, over_three, declared, names_it}
-use Rattle.argot_spelling.proofs.Exact.Roots.{rooted_primary, primary_operation}
+use Rattle.argot_spelling.proofs.Roots.{rooted_primary, primary_operation}
 use Rattle.argot_spelling.proofs.Exact.Ahead.{ahead}
 use Rattle.argot_spelling.proofs.Exact.Starts.{starts, operand_expr}
 use Rattle.argot_spelling.proofs.Exact.Tokens.{apart, failing, follows, begins_expr, at_mark, at_word, by_mark, by_test, within_at, within_mark, within_word, within_pass}
@@ -65,6 +65,11 @@ module _ (tokens : List Token) where
       (record { stay = λ m from mark new. guard_stays m from mark to new d p w })
       (record { here = λ e. absurd (false≢true e); dotted = λ at e. absurd (false≢true e) })
 
+  guard_primary : {x : Forest} {from to : ℕ} → OfPrimary tokens false x from to → HasMark tokens to marks.Dot → HasMark tokens (to + 1) marks.OpenParen → HasWord tokens (to + 2) words.TypeWord → (n : ℕ) (out : List Post) → room tokens from 3 ≤ n → Gets tokens n (PrimaryOr false false) from out x to
+  guard_primary {x} {from} {to} ih d p w n out enough =
+      let comes = ih false n out enough (record { here = λ e. absurd (false≢true e); dotted = λ at e. absurd (false≢true e) }) in
+      comes.comes ∙ guard_stays comes.steps from (length out) to (out ++ posts x) d p w
+
   -- no name and `:=` stand before a brace, or before a guard
   unnamed_tag : {x : Forest} {from to : ℕ} → Spells tokens (Level 1 false) x from to → Passes tokens is_brace to → (is_at tokens from kinds.Name && is_mark tokens (from + 1) marks.Define) ≡ false
   unnamed_tag s h = second_not tokens (kinds.Mark marks.Define) s h refl refl
@@ -85,7 +90,7 @@ module _ (tokens : List Token) where
   tag_guard {y} {at} {mid} (named_guarded {x = x} {to = to} h a s ih d p w c) from mark n out enough =
       let within = within_at h in
       let guard = one nodes.Guard (at + 2) (to + 4) x in
-      let reads = guard_reads s ih d p w n (out ++ posts (declared at)) (omega arith) in
+      let reads = guard_primary ih d p w n (out ++ posts (declared at)) (omega arith) in
       let long : length out + 1 ≡ length (out ++ posts (declared at)) = omega (arith, length-append out (posts (declared at))) in
       simp (h.there, a.there, names_it at out, reads, d.there, p.there, w.there, c.there, rooted_primary (out ++ posts (declared at)) (primary_operation tokens s), closed_posts nodes.Guard (at + 2) (to + 4) (length out + 1) (out ++ posts (declared at)) ((out ++ posts (declared at)) ++ posts x) x refl long, over_two nodes.NamedGuard at (to + 4) out (declared at) guard)
 

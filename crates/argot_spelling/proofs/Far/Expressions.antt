@@ -20,7 +20,7 @@ use Rattle.argot_spelling.proofs.Steps.{read_more}
 use Rattle.argot_spelling.proofs.TokenTests.{has_mark}
 use Rattle.argot_spelling.proofs.PostLaws.{put_posts}
 use Rattle.argot_spelling.proofs.Exact.Nodes.{over_two}
-use Rattle.argot_spelling.proofs.Exact.Roots.{rooted_typed, operand_root}
+use Rattle.argot_spelling.proofs.Roots.{rooted_typed, operand_root}
 use Rattle.argot_spelling.proofs.Exact.Ahead.{ahead}
 use Rattle.argot_spelling.proofs.Exact.Starts.{starts}
 use Rattle.argot_spelling.proofs.Exact.Tokens.{other, apart, follows, at_mark, by_mark, within_at, within_mark, within_pass}

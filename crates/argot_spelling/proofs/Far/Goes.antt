@@ -10,8 +10,8 @@ use Rattle.argot_tree.specs.declared.mark.Mark.{Mark}
 use Rattle.argot_tree.specs.TokensAt.{level_at}
 use Rattle.argot_tree.specs.Grammar.{Part, Level, AnyType, Eithers}
 use Rattle.argot_spelling.specs.declared.post.Post.{Post}
-use Rattle.argot_spelling.specs.Reading.{The, Climb, Suffixes, MoreExprs, Answer, ◌>>=◌, try_on, closed, is_at, is_mark, past, past_list, behind_comma}
-use Rattle.argot_spelling.specs.ExpressionReader.{climbs, bracket_end, arguments_by, closing_since, dot_by, second_by, behind_first_by, bracket_by, call_by, suffix_by}
+use Rattle.argot_spelling.specs.Reading.{The, Climb, Suffixes, MoreExprs, Answer, ◌>>=◌, try_on, closed, ending, is_at, is_mark, past, past_list, behind_comma}
+use Rattle.argot_spelling.specs.ExpressionReader.{climbs, bracket_end, arguments_by, dot_by, second_by, behind_first_by, bracket_by, call_by, suffix_by}
 use Rattle.argot_spelling.specs.Reader.{read}
 use Rattle.argot_spelling.proofs.Sound.{reads_spelled}
 use Rattle.argot_spelling.proofs.Exact.Ahead.{ahead}
@@ -94,7 +94,7 @@ module _ (tokens : List Token) where
   pub list_passes : {at : ℕ} (mark : Mark) (r : ℕ × List Post) → at ≤ r.0 → Ahead at (past_list tokens mark r)
   list_passes mark r h = let behind = comma_behind r.0 in passes mark (behind_comma tokens r.0, r.1) (omega arith)
 
-  closes_since : {at : ℕ} (kind : NodeKind) (start mark : ℕ) (r : ℕ × List Post) → at ≤ r.0 → Ahead at (closing_since kind start mark r)
+  closes_since : {at : ℕ} (kind : NodeKind) (start mark : ℕ) (r : ℕ × List Post) → at ≤ r.0 → Ahead at (ending kind start mark r)
   closes_since kind start mark r h = something (r.0, closed kind start r.0 mark r.1) h
 
   module _ (n start mark : ℕ) where

@@ -9,7 +9,7 @@ returns-clause-longest c =
     let behind = c.in_ok-behind.ensures in
     let same : c.in-Some.to ≡ c.in_ok-behind.behind = omega arith in
     rw same at (longest_read c.args.tokens.now c.args.what _ c.args.at c.in-Some.to c.new.result.items c.read_alone.new.out.posts.items c.from_vec.result c.new.ensures.items (omega (arith, count)) gives
-    (λ x e. c.from_vec.ensures ∙ c.in_ok-nodes.ensures x (c.deref.ensures.value ∙ e)))
+    (λ x e. c.from_vec.ensures ∙ c.in_ok-nodes.ensures x e))
 
 pub returns-in_default-clause-fault : goal.returns-in_default-clause-fault
 returns-in_default-clause-fault c =

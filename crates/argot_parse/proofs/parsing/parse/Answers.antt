@@ -35,4 +35,4 @@ returns-clause-tree c =
     let whole : c.in-Some-2.to ≡ length c.deref-2.result.now = omega arith in
     subst (λ ts. SpellsNodes ts File c.from_vec.result 0 (length ts)) same
     (file_tree c.deref-2.result.now _ c.in-Some-2.to c.new.result.items c.file.new.out.posts.items c.from_vec.result c.new.ensures.items gives whole
-    (λ x e. c.from_vec.ensures ∙ c.in_ok-nodes.ensures x (c.deref-3.ensures.value ∙ e)))
+    (λ x e. c.from_vec.ensures ∙ c.in_ok-nodes.ensures x e))
