@@ -56,8 +56,9 @@ impl<'a> At<'a> {
     }
 }
 
-/// The node of the reference by which a call goes.
-fn reference(place: u32, callee: &Callee, args: &[u32], behind: u32) -> Result<Node, Memory>
+/// The node of the reference by which a call goes, where so many results stand before the handed values. Err is want of
+/// memory, where a number doesn't fit.
+pub fn reference(place: u32, callee: &Callee, args: &[u32], behind: u32) -> Result<Node, Memory>
     ensures { IfOk result (λ n. n ≡ reference place callee.now args.now behind) }
 {
     let index = match callee {

@@ -1,7 +1,8 @@
 //! What each instruction asks of the points-to relation, as rules on nodes and locations.
 //!
 //! `list_nodes` and `list_locations` number what refers and what is referred to, within the limits; `rules_of`
-//! goes over the instructions with the definitions that reach them and answers the rules. `specs/Column.antt`
+//! goes over the instructions with the definitions that reach them and answers the rules; `reference` is the node by
+//! which a call finds whom it calls. `specs/Column.antt`
 //! has the rules of each kind of instruction, `specs/Listing.antt` the limits. The solver of `argot_points`
 //! follows the rules and knows nothing of instructions.
 #![tactic(auto)]
@@ -15,8 +16,8 @@ mod paths;
 mod rules;
 mod values;
 
-pub use column::rules_of;
+pub use column::{reference, rules_of};
 pub use locations::list_locations;
 pub use nodes::{leaves_of, list_nodes};
-pub use paths::{is_joined, same_path};
+pub use paths::{copied, is_joined, same_path};
 pub use rules::{Owned, PointsFault, Rule};

@@ -79,7 +79,7 @@ pub fn is_joined(whole: &[PathStep], front: &[PathStep], rest: &[PathStep]) -> b
 }
 
 /// The path, copied.
-pub(crate) fn copied(alloc: Global, path: &[PathStep]) -> Result<Path, Memory>
+pub fn copied(alloc: Global, path: &[PathStep]) -> Result<Path, Memory>
     ensures { IfOk result (λ q. q ≡ path.now) }
 {
     Ok(Sequence::from_vec(path.to_vec(alloc)?))
