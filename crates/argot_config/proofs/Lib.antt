@@ -1,0 +1,6 @@
+pub mod Members
+pub mod Gathering
+pub mod Finding
+pub mod Marked
+pub mod Lowered
+pub mod Bounds

@@ -1,0 +1,4 @@
+pub mod Matching
+pub mod Asking
+pub mod Looking
+pub mod Marking

@@ -1,0 +1,10 @@
+pub mod Paths
+pub mod Shapes
+pub mod Table
+pub mod Wanted
+pub mod Compiling
+pub mod Making
+pub mod Built
+pub mod Patterns
+pub mod Answers
+pub mod Fallback
