@@ -11,7 +11,8 @@ use Rattle.argot_tree.specs.Text.{SpellsText}
 use Rattle.argot_tree.specs.Trees.{SpellsTree}
 use Rattle.argot_naming.specs.Lists.{In, IsOrdered}
 use Rattle.argot_naming.specs.Handed.{Handed, bytes_of}
-use Rattle.argot_naming.specs.Homes.{Library, HasPath, IsFileOf}
+use Rattle.argot_naming.specs.Homes.{HasPath, IsFileOf}
+use Rattle.argot_naming.specs.declared.home.Home.TheVariants.{Library}
 use Rattle.argot_naming.specs.Imports.{IsReached}
 
 -- no part of the path begins with `_` or `.` or is `testdata`

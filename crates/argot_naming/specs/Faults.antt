@@ -2,8 +2,11 @@
 use Rattle.std.specs.Prelude.{◌≡◌, ◌≢◌, ◌<◌, ℕ, List, codes}
 use Rattle.argot_text.specs.declared.position.Pos.{Pos}
 use Rattle.argot_naming.specs.Handed.{Handed, Place, IsBefore, IsFirst, Begins, read_of, text_at, position_of}
-use Rattle.argot_naming.specs.Homes.{Home, Folder, IsFileOf, HasClause, HasName, IsLeftOut, Finds}
-use Rattle.argot_naming.specs.Imports.{Alias, Imports, Edge, Leads, IsReached, IsReachedFile}
+use Rattle.argot_naming.specs.Homes.{IsFileOf, HasClause, HasName, IsLeftOut, Finds}
+use Rattle.argot_naming.specs.declared.home.Home.{Home}
+use Rattle.argot_naming.specs.declared.home.Home.TheVariants.{Folder}
+use Rattle.argot_naming.specs.Imports.{Imports, Edge, Leads, IsReached, IsReachedFile}
+use Rattle.argot_naming.specs.declared.alias.Alias.{Alias}
 use Rattle.argot_naming.specs.Locals.{Specified, Brings, HasEarlier}
 use Rattle.argot_naming.specs.Tops.{Function, IsTopName, IsTop, IsImported}
 use Rattle.argot_naming.specs.Scopes.{MeansNothing}

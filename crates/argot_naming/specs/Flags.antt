@@ -7,11 +7,16 @@ use Rattle.argot_tree.specs.declared.token.TokenKind.{TokenKind}
 use Rattle.argot_tree.specs.declared.token.TokenKind.TheVariants as kinds
 use Rattle.argot_tree.specs.declared.token.Token.{Token}
 use Rattle.argot_tree.specs.declared.tree.TreeNode.{TreeNode}
+use Rattle.argot_tree.specs.declared.entries.Entry.{Entry}
 use Rattle.argot_naming.specs.Lists.{In, IsListOf}
 use Rattle.argot_naming.specs.Handed.{Handed, Read, Place, IsBefore, Begins, read_of, bytes_of, directives_of, text_at, position_of}
 use Rattle.argot_naming.specs.Nodes.{Spans, Is, IsOf, IsFirstChild, IsNext, IsChild, HasChild, HasReceiver, is_params}
-use Rattle.argot_naming.specs.Homes.{Home, Folder, HasPath, folder_of, ImportPath}
-use Rattle.argot_naming.specs.Imports.{Alias, Dotted, IsImport, Imports, IsReached, IsReachedFile}
+use Rattle.argot_naming.specs.Homes.{HasPath, folder_of, ImportPath}
+use Rattle.argot_naming.specs.declared.home.Home.{Home}
+use Rattle.argot_naming.specs.declared.home.Home.TheVariants.{Folder}
+use Rattle.argot_naming.specs.Imports.{IsImport, Imports, IsReached, IsReachedFile}
+use Rattle.argot_naming.specs.declared.alias.Alias.{Alias}
+use Rattle.argot_naming.specs.declared.alias.Alias.TheVariants.{Dotted}
 use Rattle.argot_naming.specs.Locals.{specifies_type}
 use Rattle.argot_naming.specs.ModuleFile.{FirstLine}
 use Rattle.argot_naming.specs.Agreeing.{is_assembly}
@@ -22,11 +27,13 @@ use Rattle.argot_naming.specs.declared.flag.Feature.{Feature}
 use Rattle.argot_naming.specs.declared.flag.Feature.TheVariants as features
 use Rattle.argot_naming.specs.declared.flag.Flag.{Flag}
 
--- a function without a body for which an entry stands: its package's path, its receiver's type and its name
-pub record Entry : Type 0 where
-  pub path : List ℕ
-  pub receiver : List ℕ
-  pub name : List ℕ
+-- an entry stands for the function without a body of this name, of the receiver's type and the package's path
+pub record HasEntry (entries : List Entry) (path receiver name : List ℕ) : Type 0 where
+  pub entry : Entry
+  pub among : In entry entries
+  pub package_is : entry.package ≡ path
+  pub receiver_is : entry.receiver ≡ receiver
+  pub name_is : entry.name ≡ name
 
 -- an import of a package that is left out
 pub data LeavesOut : List ℕ → Feature → Type 0 where
@@ -151,7 +158,7 @@ pub data HasFeature (h : Handed) (main : List ℕ) (entries : List Entry) : Feat
   predeclared : {home : Home} {file node token last : ℕ} {name : List ℕ} {feature : Feature} {place : Place} → IsReachedFile h main home file → IsOf (read_of h file).nodes node is_name token last → (IsKey (read_of h file).nodes node → ⊥) → StandsFor h home file node (Predeclared name) → IsFeature name feature → Begins h file token place → HasFeature h main entries feature place
   goto_ : {home : Home} {file node token last : ℕ} {place : Place} → IsReachedFile h main home file → Spans (read_of h file).nodes node nodes.Goto token last → Begins h file token place → HasFeature h main entries features.Goto place
   method_expression : {home : Home} {file node operand token last : ℕ} {place : Place} → IsReachedFile h main home file → Spans (read_of h file).nodes node nodes.Selector token last → IsFirstChild (read_of h file).nodes node operand → DenotesType h home file operand → Begins h file token place → HasFeature h main entries features.MethodExpression place
-  without_body : {file decl node at last token end : ℕ} {folder path receiver : List ℕ} {place : Place} → IsReachedFile h main (Folder folder) file → Spans (read_of h file).nodes decl nodes.FuncDecl at last → (HasChild (read_of h file).nodes decl nodes.Block → ⊥) → IsChild (read_of h file).nodes decl node → Spans (read_of h file).nodes node nodes.DeclName token end → ImportPath h (Folder folder) path → ReceiverName (read_of h file) decl receiver → (In (record { path = path; receiver = receiver; name = text_at (read_of h file) token }) entries → ⊥) → Begins h file token place → HasFeature h main entries features.FunctionWithoutBody place
+  without_body : {file decl node at last token end : ℕ} {folder path receiver : List ℕ} {place : Place} → IsReachedFile h main (Folder folder) file → Spans (read_of h file).nodes decl nodes.FuncDecl at last → (HasChild (read_of h file).nodes decl nodes.Block → ⊥) → IsChild (read_of h file).nodes decl node → Spans (read_of h file).nodes node nodes.DeclName token end → ImportPath h (Folder folder) path → ReceiverName (read_of h file) decl receiver → (HasEntry entries path receiver (text_at (read_of h file) token) → ⊥) → Begins h file token place → HasFeature h main entries features.FunctionWithoutBody place
   go_line : {file offset : ℕ} {second : List ℕ} → HasPath h file (codes "go.mod") → IsLater h.sources.go_line → FirstLine (bytes_of h file) (codes "go") offset second → HasFeature h main entries features.GoLine (record { file = file; offset = offset })
 
 -- the order of features at one place

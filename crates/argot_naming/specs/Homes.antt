@@ -6,13 +6,8 @@ use Rattle.argot_stubs.specs.Stubs.{HasStub}
 use Rattle.argot_tree.specs.declared.node_kind.NodeKind.TheVariants as nodes
 use Rattle.argot_naming.specs.Handed.{Handed, Read, read_of, text_at}
 use Rattle.argot_naming.specs.Nodes.{Spans, IsFirstChild}
-
--- a package is the Go files of one folder, or one text of the library
-pub data Home : Type 0 where
-  -- by the folder's path, which is empty at the top
-  Folder : List ℕ → Home
-  -- by the import path
-  Library : List ℕ → Home
+use Rattle.argot_naming.specs.declared.home.Home.{Home}
+use Rattle.argot_naming.specs.declared.home.Home.TheVariants.{Folder, Library}
 
 -- the folder of a path: what stands before its last slash, or nothing
 abbrev pub folder_of : List ℕ → List ℕ

@@ -5,13 +5,11 @@ use Rattle.argot_tree.specs.declared.tree.TreeNode.{TreeNode}
 use Rattle.argot_naming.specs.Handed.{Handed, Read, read_of, text_at}
 use Rattle.argot_naming.specs.Nodes.{Spans, IsFirstChild, IsNext}
 use Rattle.argot_naming.specs.TextValues.{TextValue}
-use Rattle.argot_naming.specs.Homes.{Home, Folder, IsFolder, IsFileOf, Finds}
-
--- the name that an import has of its own: none, a dot, or that of a token
-pub data Alias : Type 0 where
-  Unnamed : Alias
-  Dotted : Alias
-  Named : ℕ → Alias
+use Rattle.argot_naming.specs.Homes.{IsFolder, IsFileOf, Finds}
+use Rattle.argot_naming.specs.declared.alias.Alias.{Alias}
+use Rattle.argot_naming.specs.declared.alias.Alias.TheVariants.{Unnamed, Dotted, Named}
+use Rattle.argot_naming.specs.declared.home.Home.{Home}
+use Rattle.argot_naming.specs.declared.home.Home.TheVariants.{Folder}
 
 -- a node is an import that begins with this token, has the text of its path at that one, and is named so
 pub data IsImport (tree : List TreeNode) : ℕ → ℕ → ℕ → Alias → Type 0 where

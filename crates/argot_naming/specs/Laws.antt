@@ -5,7 +5,7 @@ use Rattle.argot_tree.specs.declared.tree.Tree.{Tree}
 use Rattle.argot_tree.specs.Trees.{SpellsTree}
 use Rattle.argot_naming.specs.Handed.{Handed}
 use Rattle.argot_naming.specs.Blocks.{IsBlock, IsInnermost}
-use Rattle.argot_naming.specs.Homes.{Home}
+use Rattle.argot_naming.specs.declared.home.Home.{Home}
 use Rattle.argot_naming.specs.Scopes.{Declaration, Means}
 use Rattle.argot_naming.specs.Faults.{Refuses, IsResolved}
 use Rattle.argot_naming.specs.declared.fault.NameFault.{NameFault}

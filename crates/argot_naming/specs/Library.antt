@@ -2,7 +2,8 @@
 use Rattle.std.specs.Prelude.{ℕ, List}
 use Rattle.argot_naming.specs.Lists.{IsListOf}
 use Rattle.argot_naming.specs.Handed.{Handed}
-use Rattle.argot_naming.specs.Homes.{Home, Library}
+use Rattle.argot_naming.specs.declared.home.Home.{Home}
+use Rattle.argot_naming.specs.declared.home.Home.TheVariants.{Library}
 use Rattle.argot_naming.specs.Imports.{Edge, IsReached}
 use Rattle.argot_naming.specs.Agreeing.{PathBefore}
 

@@ -7,7 +7,9 @@ use Rattle.argot_typed.specs.declared.program.Decl.{Decl}
 use Rattle.argot_typed.specs.declared.program.Use.{Use}
 use Rattle.argot_naming.specs.Lists.{IsListOf, IsSetOf}
 use Rattle.argot_naming.specs.Handed.{Handed, Place, read_of, text_at}
-use Rattle.argot_naming.specs.Homes.{Home, Folder, IsFileOf, HasName, ImportPath}
+use Rattle.argot_naming.specs.Homes.{IsFileOf, HasName, ImportPath}
+use Rattle.argot_naming.specs.declared.home.Home.{Home}
+use Rattle.argot_naming.specs.declared.home.Home.TheVariants.{Folder}
 use Rattle.argot_naming.specs.Imports.{IsReached}
 use Rattle.argot_naming.specs.Locals.{Manner, Brings, IsNew}
 use Rattle.argot_naming.specs.Predeclared.{predeclared}

@@ -2,7 +2,7 @@
 -- scope).
 use Rattle.std.specs.Prelude.{◌≡◌, ◌+◌, ◌<◌, ◌≤◌, ℕ, true, ◌⊎◌, List}
 use Rattle.argot_naming.specs.Handed.{Handed, Place, read_of, text_at}
-use Rattle.argot_naming.specs.Homes.{Home}
+use Rattle.argot_naming.specs.declared.home.Home.{Home}
 use Rattle.argot_naming.specs.Locals.{IsLocal}
 use Rattle.argot_naming.specs.Predeclared.{is_among, predeclared}
 use Rattle.argot_naming.specs.Tops.{IsTop, IsImported}

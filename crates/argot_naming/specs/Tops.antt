@@ -10,8 +10,11 @@ use Rattle.argot_tree.specs.declared.tree.TreeNode.{TreeNode}
 use Rattle.argot_naming.specs.Handed.{Handed, Read, Place, Begins, read_of, text_at}
 use Rattle.argot_naming.specs.Nodes.{Spans, IsOf, IsChild, HasReceiver}
 use Rattle.argot_naming.specs.Blocks.{IsOutside}
-use Rattle.argot_naming.specs.Homes.{Home, IsFileOf, HasName, IsLeftOut, Finds}
-use Rattle.argot_naming.specs.Imports.{Alias, Unnamed, Named, Imports}
+use Rattle.argot_naming.specs.Homes.{IsFileOf, HasName, IsLeftOut, Finds}
+use Rattle.argot_naming.specs.declared.home.Home.{Home}
+use Rattle.argot_naming.specs.Imports.{Imports}
+use Rattle.argot_naming.specs.declared.alias.Alias.{Alias}
+use Rattle.argot_naming.specs.declared.alias.Alias.TheVariants.{Unnamed, Named}
 use Rattle.argot_naming.specs.Locals.{IsNameOf, specifies_values, specifies_type}
 
 -- what a node outside functions declares

@@ -5,8 +5,10 @@ use Rattle.argot_tree.specs.declared.node_kind.NodeKind.TheVariants as nodes
 use Rattle.argot_tree.specs.declared.tree.TreeNode.{TreeNode}
 use Rattle.argot_naming.specs.Handed.{Handed, Read, Place, read_of, text_at}
 use Rattle.argot_naming.specs.Nodes.{Spans, Is, IsOf, IsFirstChild, IsChild, HasChild}
-use Rattle.argot_naming.specs.Homes.{Home, Finds}
-use Rattle.argot_naming.specs.Imports.{Dotted, IsImport}
+use Rattle.argot_naming.specs.Homes.{Finds}
+use Rattle.argot_naming.specs.declared.home.Home.{Home}
+use Rattle.argot_naming.specs.Imports.{IsImport}
+use Rattle.argot_naming.specs.declared.alias.Alias.TheVariants.{Dotted}
 use Rattle.argot_naming.specs.Locals.{Manner, Defined, Brings, IsOnLeft, HasEarlier}
 use Rattle.argot_naming.specs.Tops.{IsTop, IsImported, IsExported}
 use Rattle.argot_naming.specs.Scopes.{Declaration, Declared, Means}

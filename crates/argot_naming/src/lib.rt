@@ -5,9 +5,13 @@
 //! `Tops`, `Scopes`, `Uses`; what is wrong: `Faults`; what is answered: `Loaded`, `Flags`, `Library`.
 #![tactic(auto)]
 
+mod alias;
 mod fault;
 mod flag;
+mod home;
 pub mod laws;
 
+pub use alias::Alias;
 pub use fault::NameFault;
 pub use flag::{Feature, Flag};
+pub use home::Home;

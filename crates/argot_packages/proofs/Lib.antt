@@ -1,0 +1,15 @@
+pub mod Values
+pub mod Reading
+pub mod Splits
+pub mod Lists
+pub mod Siting
+pub mod Options
+pub mod Writing
+pub mod FirstFiles
+pub mod Candidates
+pub mod Finding
+pub mod Surveys
+pub mod AllImports
+pub mod FoundLists
+pub mod Graphs
+pub mod Reached

@@ -1,0 +1,56 @@
+-- What a file's names answer, from what its lists answer.
+use Rattle.std.proofs.Common.{◌≡◌, ℕ, List, length, Bool, Option, Some, None, refl, subst, arith}
+use Rattle.std.specs.Prelude.{IfSome, IsNone}
+use Rattle.argot_tree.specs.declared.token.Token.{Token}
+use Rattle.argot_tree.specs.declared.tree.TreeNode.{TreeNode}
+use Rattle.argot_bindings.specs.declared.brought.Brought.{Brought}
+use Rattle.argot_bindings.specs.declared.bindings.Bindings.{Bindings}
+use Rattle.argot_naming.specs.Locals.{HasEarlier}
+use Rattle.argot_naming.specs.Uses.{IsFirstOf}
+use Rattle.argot_scopes.specs.Again.{IsFirstAgain}
+use Rattle.argot_scopes.specs.Earliest.{IsEarliest}
+use Rattle.argot_scopes.specs.Files.{file_of, MeansLocal, MeansNoLocal, IsFirstPlace, HasNoPlace}
+use Rattle.argot_scopes.specs.Meant.{IsBest}
+use Rattle.argot_scopes.specs.Names.{AreNames}
+use Rattle.argot_scopes.proofs.InFile.{best_meant, none_meant, first_place, no_place, earliest_first, earliest_none}
+
+if_some : {A : Type 0} (r : Option A) (P : A → Type 0) → ((x : A) → r ≡ Some x → P x) → IfSome r P
+if_some None P h = tt
+if_some (Some x) P h = h x refl
+
+module _ (bytes : List ℕ) (tokens : List Token) (nodes : List TreeNode) (bindings : Bindings) (news : List Bool) (names : AreNames bytes tokens nodes bindings news) where
+  best_there : (brought : List Brought) (flags : List Bool) (token : ℕ) (name : List ℕ) (result : Option Brought) → brought ≡ bindings.brought.items → flags ≡ news → IsBest bytes tokens brought flags token name (length brought) result → IsBest bytes tokens bindings.brought.items news token name (length bindings.brought.items) result
+  best_there brought flags token name result e f h =
+      subst (λ x. IsBest bytes tokens bindings.brought.items x token name (length bindings.brought.items) result) f
+      (subst (λ x. IsBest bytes tokens x flags token name (length x) result) e h)
+
+  pub meant_some : (brought : List Brought) (flags : List Bool) (token : ℕ) (name : List ℕ) (result : Option Brought) → brought ≡ bindings.brought.items → flags ≡ news → IsBest bytes tokens brought flags token name (length brought) result → IfSome result (MeansLocal (file_of bytes tokens nodes) token name)
+  meant_some brought flags token name result e f h =
+      if_some result (MeansLocal (file_of bytes tokens nodes) token name)
+      (best_meant bytes tokens nodes bindings.brought.items names.brings.brought news names.are_new token name (length bindings.brought.items) result (omega arith) (best_there brought flags token name result e f h))
+
+  is_none : {A : Type 0} (r : Option A) → IsNone r → r ≡ None
+  is_none None h = refl
+  is_none (Some x) h = absurd (cc)
+
+  pub meant_none : (brought : List Brought) (flags : List Bool) (token : ℕ) (name : List ℕ) (result : Option Brought) → brought ≡ bindings.brought.items → flags ≡ news → IsBest bytes tokens brought flags token name (length brought) result → IsNone result → MeansNoLocal (file_of bytes tokens nodes) token name
+  meant_none brought flags token name result e f h none =
+      none_meant bytes tokens nodes bindings.brought.items names.brings.brought news names.are_new token name (length bindings.brought.items) result (omega arith) (best_there brought flags token name result e f h) (is_none result none)
+
+  pub again_some : (brought : List Brought) (result : Option ℕ) → brought ≡ bindings.brought.items → IsFirstAgain bytes tokens brought (length brought) result → IfSome result (IsFirstPlace (file_of bytes tokens nodes))
+  again_some brought result e h =
+      if_some result (IsFirstPlace (file_of bytes tokens nodes))
+      (first_place bytes tokens nodes bindings.brought.items names.brings.brought (length bindings.brought.items) result (omega arith) (subst (λ x. IsFirstAgain bytes tokens x (length x) result) e h))
+
+  pub again_none : (brought : List Brought) (result : Option ℕ) → brought ≡ bindings.brought.items → IsFirstAgain bytes tokens brought (length brought) result → IsNone result → HasNoPlace (file_of bytes tokens nodes)
+  again_none brought result e h none =
+      no_place bytes tokens nodes bindings.brought.items names.brings.brought (length bindings.brought.items) result (omega arith) (subst (λ x. IsFirstAgain bytes tokens x (length x) result) e h) (is_none result none)
+
+  pub first_some : (brought : List Brought) (token opens : ℕ) (result : Option Brought) → brought ≡ bindings.brought.items → IsEarliest bytes tokens brought token opens (length brought) result → IfSome result (λ (b : Brought). IsFirstOf (file_of bytes tokens nodes) token opens b.node)
+  first_some brought token opens result e h =
+      if_some result (λ (b : Brought). IsFirstOf (file_of bytes tokens nodes) token opens b.node)
+      (earliest_first bytes tokens nodes bindings.brought.items names.brings.brought token opens (length bindings.brought.items) result (omega arith) (subst (λ x. IsEarliest bytes tokens x token opens (length x) result) e h))
+
+  pub first_none : (brought : List Brought) (token opens : ℕ) (result : Option Brought) → brought ≡ bindings.brought.items → IsEarliest bytes tokens brought token opens (length brought) result → IsNone result → HasEarlier (file_of bytes tokens nodes) token opens → ⊥
+  first_none brought token opens result e h none =
+      earliest_none bytes tokens nodes bindings.brought.items names.brings.brought token opens (length bindings.brought.items) result (omega arith) (subst (λ x. IsEarliest bytes tokens x token opens (length x) result) e h) (is_none result none)

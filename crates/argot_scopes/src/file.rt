@@ -1,0 +1,103 @@
+// The names of one file's functions.
+ghost use Rattle.std.specs.Prelude.{◌≡◌, ◌<◌, ℕ, List, IsNone, IfSome, IfOk, true, false, length};
+ghost use Rattle.argot_tree.specs.declared.token.Token.{Token};
+ghost use Rattle.argot_tree.specs.Trees.{SpellsTree};
+ghost use Rattle.argot_naming.specs.Locals.{HasEarlier};
+ghost use Rattle.argot_naming.specs.Uses.{IsFirstOf, IsPassedOver};
+ghost use Rattle.argot_scopes.specs.Files.{file_of, MeansLocal, MeansNoLocal, IsFirstPlace, HasNoPlace};
+ghost use Rattle.argot_scopes.specs.Names.{AreNames};
+
+use crate::again::first_again;
+use crate::earliest::earliest_of;
+use crate::meant::local_meant;
+use crate::news::news_of;
+use argot_bindings::{Bindings, Brought, bindings_of};
+use argot_text::Memory;
+use argot_tree::{Token, Tree};
+use std::alloc::Global;
+
+/// A file with what its nodes bring into scope and look up, and which of the names that come into its blocks are new.
+#[derive(Drop)]
+pub struct FileNames<'a> {
+    pub bytes: &'a [u8],
+    pub tokens: &'a [Token],
+    pub tree: &'a Tree,
+    pub bindings: Bindings,
+    pub news: Vec<bool>,
+}
+
+/// The names of a file.
+pub fn names_of<'a>(
+    alloc: Global,
+    bytes: &'a [u8],
+    tokens: &'a [Token],
+    tree: &'a Tree,
+) -> Result<FileNames<'a>, Memory>
+    requires { (spelled : List Token) × SpellsTree tree.now spelled }
+    ensures bytes { IfOk result (λ n. n.bytes.now ≡ bytes.now) }
+    ensures tokens { IfOk result (λ n. n.tokens.now ≡ tokens.now) }
+    ensures tree { IfOk result (λ n. n.tree.now ≡ tree.now) }
+    ensures names { IfOk result (λ n. AreNames bytes.now tokens.now tree.now.nodes n.bindings n.news.items) }
+{
+    let bindings = bindings_of(alloc, tree)?;
+    let news = news_of(alloc, bytes, tokens, &bindings.brought)?;
+    Ok(FileNames {
+        bytes,
+        tokens,
+        tree,
+        bindings,
+        news,
+    })
+}
+
+/// The declaration in a function that the name means at the token; none where no such declaration is in scope.
+pub fn meant_at(names: &FileNames, token: u32, name: &[u8]) -> Option<Brought>
+    requires { AreNames names.now.bytes.now names.now.tokens.now names.now.tree.now.nodes names.now.bindings names.now.news.items }
+    ensures some { IfSome result (MeansLocal (file_of names.now.bytes.now names.now.tokens.now names.now.tree.now.nodes) token name.now) }
+    ensures none { IsNone result → MeansNoLocal (file_of names.now.bytes.now names.now.tokens.now names.now.tree.now.nodes) token name.now }
+{
+    local_meant(
+        names.bytes,
+        names.tokens,
+        &names.bindings.brought,
+        &names.news,
+        token,
+        name,
+    )
+}
+
+/// The first byte of the first name that is declared again in a block of a function; none where there is none.
+pub fn redeclared(names: &FileNames) -> Option<u32>
+    requires { AreNames names.now.bytes.now names.now.tokens.now names.now.tree.now.nodes names.now.bindings names.now.news.items }
+    ensures some { IfSome result (IsFirstPlace (file_of names.now.bytes.now names.now.tokens.now names.now.tree.now.nodes)) }
+    ensures none { IsNone result → HasNoPlace (file_of names.now.bytes.now names.now.tokens.now names.now.tree.now.nodes) }
+{
+    first_again(names.bytes, names.tokens, &names.bindings.brought)
+}
+
+/// The node of the first name that the block has with the text of the token, which stands behind it; none where it has none.
+pub fn first_of(names: &FileNames, token: u32, opens: u32) -> Option<Brought>
+    requires { AreNames names.now.bytes.now names.now.tokens.now names.now.tree.now.nodes names.now.bindings names.now.news.items }
+    ensures some { IfSome result (λ b. IsFirstOf (file_of names.now.bytes.now names.now.tokens.now names.now.tree.now.nodes) token opens b.node) }
+    ensures none { IsNone result → HasEarlier (file_of names.now.bytes.now names.now.tokens.now names.now.tree.now.nodes) token opens → ⊥ }
+{
+    earliest_of(
+        names.bytes,
+        names.tokens,
+        &names.bindings.brought,
+        token,
+        opens,
+    )
+}
+
+/// Whether a name at the token may mean what argot leaves out: the file imports a package under a dot, or the token stands in
+/// a declaration with type parameters.
+pub fn is_passed_over(names: &FileNames, token: u32) -> bool
+    requires names { AreNames names.now.bytes.now names.now.tokens.now names.now.tree.now.nodes names.now.bindings names.now.news.items }
+    requires token { token < length names.now.bindings.generics.items }
+    ensures there { result ≡ true → IsPassedOver names.now.tree.now.nodes token }
+    ensures none { result ≡ false → IsPassedOver names.now.tree.now.nodes token → ⊥ }
+{
+    let generic = names.bindings.generics[token as usize];
+    names.bindings.dot || generic
+}
