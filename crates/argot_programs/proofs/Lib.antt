@@ -1,0 +1,12 @@
+pub mod Compared
+pub mod Parted
+pub mod Handed
+pub mod Alike
+pub mod Ranges
+pub mod Standing
+pub mod Sited
+pub mod Named
+pub mod Roles
+pub mod Handing
+pub mod Whole
+pub mod Ascending

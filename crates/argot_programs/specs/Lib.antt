@@ -1,0 +1,9 @@
+pub mod Numbers
+pub mod Leaves
+pub mod Parts
+pub mod Functions
+pub mod Places
+pub mod Sites
+pub mod Instructions
+pub mod Wrappers
+pub mod Passing
