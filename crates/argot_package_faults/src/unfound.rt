@@ -1,0 +1,60 @@
+// The first import that finds no package.
+ghost use Rattle.std.specs.Prelude.{◌≡◌, ◌<◌, ◌↔◌, List, ℕ, Some, true, length, slice_get};
+ghost use Rattle.argot_naming.specs.Handed.{Handed, Place};
+ghost use Rattle.argot_naming.specs.Faults.{FindsNone};
+ghost use Rattle.argot_packages.specs.Surveyed.{IsSurvey};
+ghost use Rattle.argot_package_faults.specs.Spots.{IsAt, IsLeast};
+ghost use Rattle.argot_package_faults.specs.Missing.{is_nothing, IsMissingAt};
+
+use crate::spot::{Spot, sooner, spot_at};
+use crate::standing::reached_leader;
+use argot_packages::{Found, Survey, import_at};
+use argot_tree::Lexed;
+
+// Nothing is found.
+fn is_nothing(found: Found) -> bool
+    ensures { result ≡ is_nothing found }
+{
+    match found {
+        Found::Nothing => true,
+        Found::Folder(_) => false,
+        Found::Library(_) => false,
+        Found::LeftOut => false,
+    }
+}
+
+// What the import of this number finds.
+fn found_at(founds: &[Found], k: usize) -> Found
+    requires { k < length founds.now }
+    ensures { slice_get founds.now k ≡ Some result }
+{
+    founds[k]
+}
+
+// Where the path of an import stands that finds nothing and is one of a package that is reached.
+fn missing_at(survey: &Survey, lexed: &[Lexed], k: usize) -> Option<Spot>
+    requires imports { k < length survey.now.imports.items }
+    requires founds { k < length survey.now.founds.items }
+    ensures { (place : Place) → IsMissingAt survey.now lexed.now k place ↔ IsAt result place }
+{
+    if !is_nothing(found_at(&survey.founds, k)) {
+        return None;
+    }
+    let import = import_at(&survey.imports, k);
+    match reached_leader(survey, import.file) {
+        Some(_) => spot_at(lexed, import.file, import.path_at),
+        None => None,
+    }
+}
+
+/// The first path of an import of a package that is reached, which finds no package and isn't left out. No memory.
+pub fn missing(survey: &Survey, lexed: &[Lexed]) -> Option<Spot>
+    requires { length survey.now.founds.items ≡ length survey.now.imports.items }
+    ensures { (h : Handed) (main : List ℕ) → h.lexed ≡ lexed.now → IsSurvey h main survey.now → IsLeast (FindsNone h main) result }
+{
+    let mut least = None;
+    for k in 0..survey.imports.len() {
+        least = sooner(least, missing_at(survey, lexed, k));
+    }
+    least
+}
