@@ -20,6 +20,6 @@ pub use looked::{Dotted, is_key, looked_at, member_at};
 pub use marks::{Wanted, marks_of};
 pub use parents::parents_of;
 pub use roles::Role;
-pub use surroundings::{Span, surroundings_of};
+pub use surroundings::{Span, is_block, surround, surroundings_of};
 pub use tables::Found;
 pub use tops::{Sort, TopName, top_at};

@@ -17,7 +17,7 @@ pub struct Span {
 }
 
 /// Whether nodes of this kind are blocks.
-fn is_block(kind: NodeKind) -> bool
+pub fn is_block(kind: NodeKind) -> bool
     ensures { result ≡ is_block kind }
 {
     matches!(
@@ -62,7 +62,7 @@ fn paint(around: &mut [Option<Span>], span: Span)
 }
 
 /// Paints node k where it is a block.
-fn surround(nodes: &[TreeNode], k: usize, around: &mut [Option<Span>])
+pub fn surround(nodes: &[TreeNode], k: usize, around: &mut [Option<Span>])
     requires formed { IsFormed nodes.now }
     requires node { k < length nodes.now }
     requires so_far { AreSurroundingsUpTo nodes.now k around.old }

@@ -11,6 +11,7 @@ use Rattle.argot_scopes.specs.Again.{IsFirstAgain}
 use Rattle.argot_scopes.specs.Earliest.{IsEarliest}
 use Rattle.argot_scopes.specs.Files.{file_of, MeansLocal, MeansNoLocal, IsFirstPlace, HasNoPlace}
 use Rattle.argot_scopes.specs.Meant.{IsBest}
+use Rattle.argot_scopes.specs.declared.file.FileNames.{FileNames}
 use Rattle.argot_scopes.specs.Names.{AreNames}
 use Rattle.argot_scopes.proofs.InFile.{best_meant, none_meant, first_place, no_place, earliest_first, earliest_none}
 
@@ -18,24 +19,34 @@ if_some : {A : Type 0} (r : Option A) (P : A → Type 0) → ((x : A) → r ≡ 
 if_some None P h = tt
 if_some (Some x) P h = h x refl
 
-module _ (bytes : List ℕ) (tokens : List Token) (nodes : List TreeNode) (bindings : Bindings) (news : List Bool) (names : AreNames bytes tokens nodes bindings news) where
-  best_there : (brought : List Brought) (flags : List Bool) (token : ℕ) (name : List ℕ) (result : Option Brought) → brought ≡ bindings.brought.items → flags ≡ news → IsBest bytes tokens brought flags token name (length brought) result → IsBest bytes tokens bindings.brought.items news token name (length bindings.brought.items) result
-  best_there brought flags token name result e f h =
-      subst (λ x. IsBest bytes tokens bindings.brought.items x token name (length bindings.brought.items) result) f
-      (subst (λ x. IsBest bytes tokens x flags token name (length x) result) e h)
+module _ (n : FileNames) (names : AreNames n) where
+  abbrev bytes : List ℕ
+  bytes = n.bytes.now
 
-  pub meant_some : (brought : List Brought) (flags : List Bool) (token : ℕ) (name : List ℕ) (result : Option Brought) → brought ≡ bindings.brought.items → flags ≡ news → IsBest bytes tokens brought flags token name (length brought) result → IfSome result (MeansLocal (file_of bytes tokens nodes) token name)
-  meant_some brought flags token name result e f h =
+  abbrev tokens : List Token
+  tokens = n.tokens.now
+
+  abbrev nodes : List TreeNode
+  nodes = n.tree.now.nodes
+
+  abbrev bindings : Bindings
+  bindings = n.bindings
+
+  abbrev news : List Bool
+  news = n.news.items
+
+  pub meant_some : (token : ℕ) (name : List ℕ) (result : Option Brought) → IsBest bytes tokens bindings.brought.items news token name (length bindings.brought.items) result → IfSome result (MeansLocal (file_of bytes tokens nodes) token name)
+  meant_some token name result h =
       if_some result (MeansLocal (file_of bytes tokens nodes) token name)
-      (best_meant bytes tokens nodes bindings.brought.items names.brings.brought news names.are_new token name (length bindings.brought.items) result (omega arith) (best_there brought flags token name result e f h))
+      (best_meant bytes tokens nodes bindings.brought.items names.brings.brought news names.are_new token name (length bindings.brought.items) result (omega arith) h)
 
   is_none : {A : Type 0} (r : Option A) → IsNone r → r ≡ None
   is_none None h = refl
   is_none (Some x) h = absurd (cc)
 
-  pub meant_none : (brought : List Brought) (flags : List Bool) (token : ℕ) (name : List ℕ) (result : Option Brought) → brought ≡ bindings.brought.items → flags ≡ news → IsBest bytes tokens brought flags token name (length brought) result → IsNone result → MeansNoLocal (file_of bytes tokens nodes) token name
-  meant_none brought flags token name result e f h none =
-      none_meant bytes tokens nodes bindings.brought.items names.brings.brought news names.are_new token name (length bindings.brought.items) result (omega arith) (best_there brought flags token name result e f h) (is_none result none)
+  pub meant_none : (token : ℕ) (name : List ℕ) (result : Option Brought) → IsBest bytes tokens bindings.brought.items news token name (length bindings.brought.items) result → IsNone result → MeansNoLocal (file_of bytes tokens nodes) token name
+  meant_none token name result h none =
+      none_meant bytes tokens nodes bindings.brought.items names.brings.brought news names.are_new token name (length bindings.brought.items) result (omega arith) h (is_none result none)
 
   pub again_some : (brought : List Brought) (result : Option ℕ) → brought ≡ bindings.brought.items → IsFirstAgain bytes tokens brought (length brought) result → IfSome result (IsFirstPlace (file_of bytes tokens nodes))
   again_some brought result e h =

@@ -1,52 +1,62 @@
--- The first earlier name grows by one item after the other.
-use Rattle.std.proofs.Common.{◌≡◌, ℕ, ◌+◌, ◌<◌, ◌≤◌, List, Option, Some, None, inl, inr, refl, sym, ◌∙◌, subst, arith}
+-- What the table of first names says of earlier names.
+use Rattle.std.proofs.Common.{◌≡◌, ℕ, ◌<◌, ◌≤◌, List, length, Option, Some, None, sym, ◌∙◌, subst, arith, refl}
 use Rattle.std.specs.Prelude.{slice_get}
-use Rattle.std.proofs.lemmas.Bool.{cases_eq}
+use Rattle.std.proofs.lemmas.Option.{slice_get_within}
 use Rattle.argot_tree.specs.declared.token.Token.{Token}
 use Rattle.argot_bindings.specs.declared.brought.Brought.{Brought}
 use Rattle.argot_bindings.proofs.Listed.{some_is}
-use Rattle.argot_scopes.specs.Earliest.{IsEarlierAt, IsEarliest, IsSooner}
+use Rattle.argot_scopes.specs.Texts.{text_in}
+use Rattle.argot_scopes.specs.Tables.{IsNamed, IsFirstNamed}
+use Rattle.argot_scopes.specs.Earliest.{IsEarlierAt, IsEarliest, IsFirstItem}
 
-module _ (bytes : List ℕ) (tokens : List Token) (brought : List Brought) (token opens : ℕ) where
-  abbrev At : ℕ → Brought → Type 0
-  At = IsEarlierAt bytes tokens brought token opens
-
-  -- item k is no earlier name
-  pub pass_by : (k : ℕ) (first : Option Brought) → IsEarliest bytes tokens brought token opens k first → ((b : Brought) → At k b → ⊥) → IsEarliest bytes tokens brought token opens (k + 1) first
-  pass_by k first h none =
+module _ (bytes : List ℕ) (tokens : List Token) (brought : List Brought) (opens : ℕ) where
+  pub item_is : (text : List ℕ) (r : Option ℕ) (k : ℕ) (b : Brought) → IsFirstNamed bytes tokens brought opens text (length brought) r → r ≡ Some k → slice_get brought k ≡ Some b → IsFirstItem bytes tokens brought opens text (Some b)
+  item_is text r k b h e f =
       record {
-        there = λ b e.
-            let t = h.there b e in
-            (t.0, omega (arith, t.1), t.2);
-        first = λ b other j e low a. elim (cases_eq j k) [
-          | inl same ↦ absurd (none other (subst (λ x. At x other) same a))
-          | inr apart ↦ h.first b other j e (omega arith) a
-        ];
-        none = λ other j e low a. elim (cases_eq j k) [
-          | inl same ↦ none other (subst (λ x. At x other) same a)
-          | inr apart ↦ h.none other j e (omega arith) a
-        ];
+        there = λ c g.
+            let w = h.there k e in
+            (k, w.1, subst (IsNamed bytes tokens brought opens text k) (some_is w.0 c (sym w.2.there ∙ f ∙ g)) w.2);
+        first = λ c other j g n. subst (λ (x : Brought). x.token ≤ other.token) (some_is b c g) (h.first k j b other e f (slice_get_within brought j other n.there) n);
+        none = λ other j g n. absurd (cc);
       }
 
-  -- item k is one
-  pub take_up : (k : ℕ) (first result : Option Brought) (b : Brought) → IsEarliest bytes tokens brought token opens k first → At k b → IsSooner first b result → IsEarliest bytes tokens brought token opens (k + 1) result
-  take_up k first result b h s by =
+  pub no_item : (text : List ℕ) (r : Option ℕ) → IsFirstNamed bytes tokens brought opens text (length brought) r → r ≡ None → IsFirstItem bytes tokens brought opens text None
+  no_item text r h e =
       record {
-        there = λ a e. elim by.one [
-          | inl old ↦
-              let t = h.there a (sym old ∙ e) in
-              (t.0, omega (arith, t.1), t.2)
-          | inr new ↦ (k, omega arith, subst (At k) (some_is b a (sym new ∙ e)) s)
-        ];
-        first = λ a other j e low o. elim (cases_eq j k) [
-          | inl same ↦
-              let one : b ≡ other = some_is b other (sym s.there ∙ subst (λ x. slice_get brought x ≡ Some other) same o.there) in
-              subst (λ (x : Brought). a.token ≤ x.token) one (by.not_behind a e)
-          | inr apart ↦ older first refl a other j e (omega arith) o
-        ];
-        none = λ other j e low o. by.some e;
+        there = λ c g. absurd (cc);
+        first = λ c other j g n. absurd (cc);
+        none = λ other j g n. h.none j other e (slice_get_within brought j other n.there) n;
       }
-    where
-      older : (q : Option Brought) → first ≡ q → (a other : Brought) (j : ℕ) → result ≡ Some a → j < k → At j other → a.token ≤ other.token
-      older None e a other j f low o = absurd (h.none other j e low o)
-      older (Some c) e a other j f low o = omega (arith, by.kept a c e f, h.first c other j e low o)
+
+  named : (token : ℕ) (text : List ℕ) → text ≡ text_in bytes tokens token → (k : ℕ) (b : Brought) → IsEarlierAt bytes tokens brought token opens k b → IsNamed bytes tokens brought opens text k b
+  named token text is k b a = record { there = a.there; block = a.is.block; spells = a.is.same ∙ sym is }
+
+  -- the first name stands before the token
+  pub first_before : (token : ℕ) (text : List ℕ) (b : Brought) → text ≡ text_in bytes tokens token → IsFirstItem bytes tokens brought opens text (Some b) → b.token < token → IsEarliest bytes tokens brought token opens (length brought) (Some b)
+  first_before token text b is h low =
+      record {
+        there = λ c e.
+            let w = h.there c e in
+            let lower : c.token < token = subst (λ (x : Brought). x.token < token) (some_is b c e) low in
+            (w.0, w.1, record { there = w.2.there; is = record { block = w.2.block; earlier = lower; same = w.2.spells ∙ is } });
+        first = λ c other k e l a. h.first c other k e (named token text is k other a);
+        none = λ other k e l a. absurd (cc);
+      }
+
+  -- it doesn't
+  pub first_behind : (token : ℕ) (text : List ℕ) (b : Brought) → text ≡ text_in bytes tokens token → IsFirstItem bytes tokens brought opens text (Some b) → token ≤ b.token → IsEarliest bytes tokens brought token opens (length brought) None
+  first_behind token text b is h high =
+      record {
+        there = λ c e. absurd (cc);
+        first = λ c other k e l a. absurd (cc);
+        none = λ other k e l a. absurd (omega (arith, h.first b other k refl (named token text is k other a), a.is.earlier));
+      }
+
+  -- there is none
+  pub no_first : (token : ℕ) (text : List ℕ) → text ≡ text_in bytes tokens token → IsFirstItem bytes tokens brought opens text None → IsEarliest bytes tokens brought token opens (length brought) None
+  no_first token text is h =
+      record {
+        there = λ c e. absurd (cc);
+        first = λ c other k e l a. absurd (cc);
+        none = λ other k e l a. h.none other k refl (named token text is k other a);
+      }

@@ -1,5 +1,11 @@
-pub mod Choosing
 pub mod InFile
 pub mod Repeating
 pub mod Answering
 pub mod Earlier
+pub mod Tabling
+pub mod Outers
+pub mod Within
+pub mod Linking
+pub mod Seeking
+pub mod Walking
+pub mod FirstNames

@@ -1,8 +1,9 @@
 -- The first name of a block with the text of a later one.
-use Rattle.std.specs.Prelude.{◌≡◌, ℕ, ◌<◌, ◌≤◌, ◌⊎◌, List, Option, Some, None, slice_get}
+use Rattle.std.specs.Prelude.{◌≡◌, ℕ, ◌<◌, ◌≤◌, List, Option, Some, None, length, slice_get}
 use Rattle.argot_tree.specs.declared.token.Token.{Token}
 use Rattle.argot_bindings.specs.declared.brought.Brought.{Brought}
 use Rattle.argot_scopes.specs.News.{IsEarlier}
+use Rattle.argot_scopes.specs.Tables.{IsNamed}
 
 -- the item of this number is an earlier name
 pub record IsEarlierAt (bytes : List ℕ) (tokens : List Token) (brought : List Brought) (token opens k : ℕ) (b : Brought) : Type 0 where
@@ -15,9 +16,8 @@ pub record IsEarliest (bytes : List ℕ) (tokens : List Token) (brought : List B
   pub first : (b other : Brought) (k : ℕ) → result ≡ Some b → k < count → IsEarlierAt bytes tokens brought token opens k other → b.token ≤ other.token
   pub none : (other : Brought) (k : ℕ) → result ≡ None → k < count → IsEarlierAt bytes tokens brought token opens k other → ⊥
 
--- the one of two that stands first, where there are two
-pub record IsSooner (best : Option Brought) (b : Brought) (result : Option Brought) : Type 0 where
-  pub one : (result ≡ best) ⊎ (result ≡ Some b)
-  pub some : result ≡ None → ⊥
-  pub not_behind : (a : Brought) → result ≡ Some a → a.token ≤ b.token
-  pub kept : (a c : Brought) → best ≡ Some c → result ≡ Some a → a.token ≤ c.token
+-- of the names of that block with this text the one that stands first
+pub record IsFirstItem (bytes : List ℕ) (tokens : List Token) (brought : List Brought) (opens : ℕ) (text : List ℕ) (result : Option Brought) : Type 0 where
+  pub there : (b : Brought) → result ≡ Some b → (k : ℕ) × (k < length brought) × IsNamed bytes tokens brought opens text k b
+  pub first : (b other : Brought) (j : ℕ) → result ≡ Some b → IsNamed bytes tokens brought opens text j other → b.token ≤ other.token
+  pub none : (other : Brought) (j : ℕ) → result ≡ None → IsNamed bytes tokens brought opens text j other → ⊥

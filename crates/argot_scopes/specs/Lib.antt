@@ -1,7 +1,10 @@
 pub mod Texts
 pub mod News
 pub mod Meant
+pub mod Considering
 pub mod Files
 pub mod Again
 pub mod Names
 pub mod Earliest
+pub mod Tables
+pub mod Enclosing

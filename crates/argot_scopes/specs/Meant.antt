@@ -27,6 +27,12 @@ pub record IsBest (bytes : List ℕ) (tokens : List Token) (brought : List Broug
   pub best : (b other : Brought) (k : ℕ) → result ≡ Some b → k < count → IsScoped bytes tokens brought news token name k other → IsAhead b other
   pub none : (other : Brought) (k : ℕ) → result ≡ None → k < count → IsScoped bytes tokens brought news token name k other → ⊥
 
+-- of the items of one block from a number on that are in scope the name means this one
+pub record IsBestFrom (bytes : List ℕ) (tokens : List Token) (brought : List Brought) (news : List Bool) (token : ℕ) (name : List ℕ) (opens bound : ℕ) (result : Option Brought) : Type 0 where
+  pub there : (b : Brought) → result ≡ Some b → (k : ℕ) × IsScoped bytes tokens brought news token name k b × (b.opens ≡ opens)
+  pub best : (b other : Brought) (k : ℕ) → result ≡ Some b → bound ≤ k → IsScoped bytes tokens brought news token name k other → other.opens ≡ opens → IsAhead b other
+  pub none : (other : Brought) (k : ℕ) → result ≡ None → bound ≤ k → IsScoped bytes tokens brought news token name k other → other.opens ≡ opens → ⊥
+
 -- the better one of two, where there are two
 pub record IsBetter (best : Option Brought) (b : Brought) (result : Option Brought) : Type 0 where
   pub one : (result ≡ best) ⊎ (result ≡ Some b)

@@ -1,11 +1,19 @@
 -- What is kept of a file's names.
-use Rattle.std.specs.Prelude.{ℕ, Bool, List}
+use Rattle.std.specs.Prelude.{List, length}
 use Rattle.argot_tree.specs.declared.token.Token.{Token}
-use Rattle.argot_tree.specs.declared.tree.TreeNode.{TreeNode}
-use Rattle.argot_bindings.specs.declared.bindings.Bindings.{Bindings}
+use Rattle.argot_tree.specs.Trees.{SpellsTree}
 use Rattle.argot_bindings.specs.Listing.{AreBindings}
+use Rattle.argot_scopes.specs.declared.file.FileNames.{FileNames}
+use Rattle.argot_scopes.specs.Enclosing.{AreBlocks}
 use Rattle.argot_scopes.specs.News.{AreNews}
+use Rattle.argot_scopes.specs.Tables.{AreFirstNames, AreLinks}
 
-pub record AreNames (bytes : List ℕ) (tokens : List Token) (nodes : List TreeNode) (bindings : Bindings) (news : List Bool) : Type 0 where
-  pub brings : AreBindings nodes bindings
-  pub are_new : AreNews bytes tokens bindings.brought.items news
+-- the lists and tables are those of the file's bytes, tokens and nodes, and the tree spells tokens
+pub record AreNames (n : FileNames) : Type 0 where
+  pub spelled : List Token
+  pub spells : SpellsTree n.tree.now spelled
+  pub brings : AreBindings n.tree.now.nodes n.bindings
+  pub first_names : AreFirstNames n.bytes.now n.tokens.now n.bindings.brought.items (length n.bindings.brought.items) n.firsts
+  pub are_new : AreNews n.bytes.now n.tokens.now n.bindings.brought.items n.news.items
+  pub links : AreLinks n.bytes.now n.tokens.now n.bindings.brought.items n.news.items n.links
+  pub blocks : AreBlocks n.tree.now.nodes n.blocks

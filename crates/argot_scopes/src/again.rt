@@ -1,12 +1,15 @@
 // Names of functions that are declared again in their block.
 ghost use Rattle.std.specs.Prelude.{◌≡◌, ◌↔◌, ◌+◌, ◌<◌, IsTrue, true, false, length, slice_get};
 ghost use Rattle.argot_bindings.specs.declared.brought.Manner.TheVariants.{Specified};
+ghost use Rattle.argot_scopes.specs.Tables.{AreFirstNames};
 ghost use Rattle.argot_scopes.specs.Again.{start_of, sooner_of, IsAgainIn, IsFirstAgain};
 
-use crate::news::has_earlier;
+use crate::earliest::has_earlier;
+use crate::firsts::item_at;
 use crate::texts::is_blank;
 use argot_bindings::{Brought, Manner};
 use argot_tree::Token;
+use indexmap::IndexMap;
 
 /// Whether the item is declared by a specification.
 fn is_specified(item: Brought) -> bool
@@ -19,13 +22,20 @@ fn is_specified(item: Brought) -> bool
 }
 
 /// Whether the item declares a name again that its block has.
-fn is_again(bytes: &[u8], tokens: &[Token], brought: &[Brought], item: Brought) -> bool
+fn is_again(
+    bytes: &[u8],
+    tokens: &[Token],
+    brought: &[Brought],
+    firsts: &IndexMap<(u32, &[u8]), usize>,
+    item: Brought,
+) -> bool
+    requires { AreFirstNames bytes.now tokens.now brought.now (length brought.now) firsts.now }
     ensures there { result ≡ true → IsAgainIn bytes.now tokens.now brought.now item }
     ensures none { result ≡ false → IsAgainIn bytes.now tokens.now brought.now item → ⊥ }
 {
     is_specified(item)
         && !is_blank(bytes, tokens, item.token)
-        && has_earlier(bytes, tokens, brought, item.token, item.opens)
+        && has_earlier(bytes, tokens, brought, firsts, item.token, item.opens)
 }
 
 /// The first byte of a token, where there is one.
@@ -56,27 +66,35 @@ fn step(
     bytes: &[u8],
     tokens: &[Token],
     brought: &[Brought],
+    firsts: &IndexMap<(u32, &[u8]), usize>,
     k: usize,
     first: Option<u32>,
 ) -> Option<u32>
+    requires firsts { AreFirstNames bytes.now tokens.now brought.now (length brought.now) firsts.now }
     requires item { k < length brought.now }
     requires so_far { IsFirstAgain bytes.now tokens.now brought.now k first }
     ensures { IsFirstAgain bytes.now tokens.now brought.now (k + 1) result }
 {
-    let item = brought[k];
-    if is_again(bytes, tokens, brought, item) {
+    let item = item_at(brought, k);
+    if is_again(bytes, tokens, brought, firsts, item) {
         return sooner_of(first, start_of(tokens, item.token));
     }
     first
 }
 
 /// The first byte of the first name in a function that is declared again in its block; none where there is none.
-pub fn first_again(bytes: &[u8], tokens: &[Token], brought: &[Brought]) -> Option<u32>
+pub fn first_again(
+    bytes: &[u8],
+    tokens: &[Token],
+    brought: &[Brought],
+    firsts: &IndexMap<(u32, &[u8]), usize>,
+) -> Option<u32>
+    requires { AreFirstNames bytes.now tokens.now brought.now (length brought.now) firsts.now }
     ensures { IsFirstAgain bytes.now tokens.now brought.now (length brought.now) result }
 {
     let mut first = None;
     for k in 0..brought.len() {
-        first = step(bytes, tokens, brought, k, first);
+        first = step(bytes, tokens, brought, firsts, k, first);
     }
     first
 }

@@ -1,40 +1,31 @@
 // The first name of a block with the text of a later one.
-ghost use Rattle.std.specs.Prelude.{◌≡◌, ◌+◌, ◌<◌, length};
-ghost use Rattle.argot_scopes.specs.Earliest.{IsEarliest, IsSooner};
+ghost use Rattle.std.specs.Prelude.{◌≡◌, ◌<◌, true, false, length, slice_get};
+ghost use Rattle.argot_scopes.specs.Earliest.{IsEarliest, IsFirstItem};
+ghost use Rattle.argot_scopes.specs.News.{HasEarlierIn};
+ghost use Rattle.argot_scopes.specs.Tables.{AreFirstNames};
 
-use crate::news::is_earlier;
+use crate::firsts::item_at;
+use crate::texts::spelled_at;
 use argot_bindings::Brought;
 use argot_tree::Token;
+use indexmap::IndexMap;
 
-/// The one of the two with the smaller token.
-fn sooner(best: Option<Brought>, b: Brought) -> Option<Brought>
-    ensures { IsSooner best b result }
-{
-    match best {
-        Some(a) => { if a.token <= b.token { Some(a) } else { Some(b) } }
-        None => Some(b),
-    }
-}
-
-/// The sooner one of the first so far and item k.
-fn step(
+/// The first name of the block with this text; none where it has none.
+fn first_item(
     bytes: &[u8],
     tokens: &[Token],
     brought: &[Brought],
-    token: u32,
+    firsts: &IndexMap<(u32, &[u8]), usize>,
     opens: u32,
-    k: usize,
-    first: Option<Brought>,
+    text: &[u8],
 ) -> Option<Brought>
-    requires item { k < length brought.now }
-    requires so_far { IsEarliest bytes.now tokens.now brought.now token opens k first }
-    ensures { IsEarliest bytes.now tokens.now brought.now token opens (k + 1) result }
+    requires { AreFirstNames bytes.now tokens.now brought.now (length brought.now) firsts.now }
+    ensures { IsFirstItem bytes.now tokens.now brought.now opens text.now result }
 {
-    let item = brought[k];
-    if is_earlier(bytes, tokens, item, token, opens) {
-        return sooner(first, item);
+    match firsts.get(&(opens, text)).copied() {
+        Some(k) => Some(item_at(brought, k)),
+        None => None,
     }
-    first
 }
 
 /// The first name that the block has with the text of a later token; none where it has none.
@@ -42,14 +33,35 @@ pub fn earliest_of(
     bytes: &[u8],
     tokens: &[Token],
     brought: &[Brought],
+    firsts: &IndexMap<(u32, &[u8]), usize>,
     token: u32,
     opens: u32,
 ) -> Option<Brought>
+    requires { AreFirstNames bytes.now tokens.now brought.now (length brought.now) firsts.now }
     ensures { IsEarliest bytes.now tokens.now brought.now token opens (length brought.now) result }
 {
-    let mut first = None;
-    for k in 0..brought.len() {
-        first = step(bytes, tokens, brought, token, opens, k, first);
+    let text = spelled_at(bytes, tokens, token);
+    match first_item(bytes, tokens, brought, firsts, opens, text) {
+        Some(b) => { if b.token < token { Some(b) } else { None } }
+        None => None,
     }
-    first
+}
+
+/// Whether the block has the name of the token from an earlier place.
+pub fn has_earlier(
+    bytes: &[u8],
+    tokens: &[Token],
+    brought: &[Brought],
+    firsts: &IndexMap<(u32, &[u8]), usize>,
+    token: u32,
+    opens: u32,
+) -> bool
+    requires { AreFirstNames bytes.now tokens.now brought.now (length brought.now) firsts.now }
+    ensures there { result ≡ true → HasEarlierIn bytes.now tokens.now brought.now token opens }
+    ensures none { result ≡ false → HasEarlierIn bytes.now tokens.now brought.now token opens → ⊥ }
+{
+    match earliest_of(bytes, tokens, brought, firsts, token, opens) {
+        Some(_) => true,
+        None => false,
+    }
 }

@@ -8,12 +8,16 @@ ghost use Rattle.argot_scopes.specs.Files.{file_of, MeansLocal, MeansNoLocal, Is
 ghost use Rattle.argot_scopes.specs.Names.{AreNames};
 
 use crate::again::first_again;
+use crate::blocks::{Blocks, blocks_of};
 use crate::earliest::earliest_of;
+use crate::firsts::firsts_of;
+use crate::links::{Links, links_of};
 use crate::meant::local_meant;
 use crate::news::news_of;
 use argot_bindings::{Bindings, Brought, bindings_of};
 use argot_text::Memory;
 use argot_tree::{Token, Tree};
+use indexmap::IndexMap;
 use std::alloc::Global;
 
 /// A file with what its nodes bring into scope and look up, and which of the names that come into its blocks are new.
@@ -24,6 +28,12 @@ pub struct FileNames<'a> {
     pub tree: &'a Tree,
     pub bindings: Bindings,
     pub news: Vec<bool>,
+    /// For each block, by its first token, and each text the number of the first name that comes into it.
+    pub firsts: IndexMap<(u32, &'a [u8]), usize>,
+    /// The new names of each block and text.
+    pub links: Links<'a>,
+    /// The innermost block around each token and around each block.
+    pub blocks: Blocks,
 }
 
 /// The names of a file.
@@ -37,47 +47,51 @@ pub fn names_of<'a>(
     ensures bytes { IfOk result (λ n. n.bytes.now ≡ bytes.now) }
     ensures tokens { IfOk result (λ n. n.tokens.now ≡ tokens.now) }
     ensures tree { IfOk result (λ n. n.tree.now ≡ tree.now) }
-    ensures names { IfOk result (λ n. AreNames bytes.now tokens.now tree.now.nodes n.bindings n.news.items) }
+    ensures names { IfOk result AreNames }
 {
     let bindings = bindings_of(alloc, tree)?;
-    let news = news_of(alloc, bytes, tokens, &bindings.brought)?;
+    let firsts = firsts_of(alloc, bytes, tokens, &bindings.brought)?;
+    let news = news_of(alloc, bytes, tokens, &bindings.brought, &firsts)?;
+    let links = links_of(alloc, bytes, tokens, &bindings.brought, &news)?;
+    let blocks = blocks_of(alloc, tree)?;
     Ok(FileNames {
         bytes,
         tokens,
         tree,
         bindings,
         news,
+        firsts,
+        links,
+        blocks,
     })
 }
 
 /// The declaration in a function that the name means at the token; none where no such declaration is in scope.
 pub fn meant_at(names: &FileNames, token: u32, name: &[u8]) -> Option<Brought>
-    requires { AreNames names.now.bytes.now names.now.tokens.now names.now.tree.now.nodes names.now.bindings names.now.news.items }
+    requires { AreNames names.now }
     ensures some { IfSome result (MeansLocal (file_of names.now.bytes.now names.now.tokens.now names.now.tree.now.nodes) token name.now) }
     ensures none { IsNone result → MeansNoLocal (file_of names.now.bytes.now names.now.tokens.now names.now.tree.now.nodes) token name.now }
 {
-    local_meant(
-        names.bytes,
-        names.tokens,
-        &names.bindings.brought,
-        &names.news,
-        token,
-        name,
-    )
+    local_meant(names, token, name)
 }
 
 /// The first byte of the first name that is declared again in a block of a function; none where there is none.
 pub fn redeclared(names: &FileNames) -> Option<u32>
-    requires { AreNames names.now.bytes.now names.now.tokens.now names.now.tree.now.nodes names.now.bindings names.now.news.items }
+    requires { AreNames names.now }
     ensures some { IfSome result (IsFirstPlace (file_of names.now.bytes.now names.now.tokens.now names.now.tree.now.nodes)) }
     ensures none { IsNone result → HasNoPlace (file_of names.now.bytes.now names.now.tokens.now names.now.tree.now.nodes) }
 {
-    first_again(names.bytes, names.tokens, &names.bindings.brought)
+    first_again(
+        names.bytes,
+        names.tokens,
+        &names.bindings.brought,
+        &names.firsts,
+    )
 }
 
 /// The node of the first name that the block has with the text of the token, which stands behind it; none where it has none.
 pub fn first_of(names: &FileNames, token: u32, opens: u32) -> Option<Brought>
-    requires { AreNames names.now.bytes.now names.now.tokens.now names.now.tree.now.nodes names.now.bindings names.now.news.items }
+    requires { AreNames names.now }
     ensures some { IfSome result (λ b. IsFirstOf (file_of names.now.bytes.now names.now.tokens.now names.now.tree.now.nodes) token opens b.node) }
     ensures none { IsNone result → HasEarlier (file_of names.now.bytes.now names.now.tokens.now names.now.tree.now.nodes) token opens → ⊥ }
 {
@@ -85,6 +99,7 @@ pub fn first_of(names: &FileNames, token: u32, opens: u32) -> Option<Brought>
         names.bytes,
         names.tokens,
         &names.bindings.brought,
+        &names.firsts,
         token,
         opens,
     )
@@ -93,7 +108,7 @@ pub fn first_of(names: &FileNames, token: u32, opens: u32) -> Option<Brought>
 /// Whether a name at the token may mean what argot leaves out: the file imports a package under a dot, or the token stands in
 /// a declaration with type parameters.
 pub fn is_passed_over(names: &FileNames, token: u32) -> bool
-    requires names { AreNames names.now.bytes.now names.now.tokens.now names.now.tree.now.nodes names.now.bindings names.now.news.items }
+    requires names { AreNames names.now }
     requires token { token < length names.now.bindings.generics.items }
     ensures there { result ≡ true → IsPassedOver names.now.tree.now.nodes token }
     ensures none { result ≡ false → IsPassedOver names.now.tree.now.nodes token → ⊥ }

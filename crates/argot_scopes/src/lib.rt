@@ -3,14 +3,21 @@
 #![tactic(auto)]
 
 mod again;
+mod blocks;
 mod earliest;
 mod file;
+mod firsts;
+mod links;
 mod meant;
 mod news;
 mod texts;
 
 pub use again::first_again;
+pub use blocks::{Blocks, blocks_of};
+pub use earliest::{earliest_of, has_earlier};
 pub use file::{FileNames, first_of, is_passed_over, meant_at, names_of, redeclared};
+pub use firsts::firsts_of;
+pub use links::{Links, links_of};
 pub use meant::local_meant;
-pub use news::{has_earlier, news_of};
-pub use texts::spelled_at;
+pub use news::news_of;
+pub use texts::{spelled_at, spelled_of};

@@ -1,10 +1,16 @@
 // Which of the names that came into a file's blocks a name means at its place.
-ghost use Rattle.std.specs.Prelude.{◌≡◌, ◌↔◌, ◌+◌, ◌<◌, IsTrue, length};
-ghost use Rattle.argot_scopes.specs.Meant.{IsInScope, IsAhead, IsBest, IsBetter};
-ghost use Rattle.argot_scopes.specs.News.{AreNews};
+ghost use Rattle.std.specs.Prelude.{◌≡◌, ◌↔◌, ◌<◌, IsTrue, Some, length, slice_get};
+ghost use Rattle.argot_scopes.specs.Meant.{IsInScope, IsAhead, IsBest, IsBestFrom, IsBetter};
+ghost use Rattle.argot_scopes.specs.Considering.{IsConsidered};
+ghost use Rattle.argot_scopes.specs.Names.{AreNames};
+ghost use Rattle.argot_bindings.specs.Bringing.{entry_of};
 
+use crate::blocks::span_at;
+use crate::file::FileNames;
+use crate::firsts::item_at;
+use crate::links::number_at;
 use crate::texts::{is_blank, is_spelled};
-use argot_bindings::Brought;
+use argot_bindings::{Brought, Span};
 use argot_tree::Token;
 
 /// Whether the item has this name, which isn't `_`, and is in scope at the token.
@@ -34,47 +40,68 @@ fn better(best: Option<Brought>, b: Brought) -> Option<Brought>
     }
 }
 
-/// The better one of the best so far and item k.
-fn step(
-    bytes: &[u8],
-    tokens: &[Token],
-    brought: &[Brought],
-    news: &[bool],
+/// The better one of the best so far and item k, where that is in scope.
+fn consider(
+    names: &FileNames,
+    k: usize,
     token: u32,
     name: &[u8],
-    k: usize,
     best: Option<Brought>,
 ) -> Option<Brought>
-    requires item { k < length brought.now }
-    requires long { length news.now ≡ length brought.now }
-    requires so_far { IsBest bytes.now tokens.now brought.now news.now token name.now k best }
-    ensures { IsBest bytes.now tokens.now brought.now news.now token name.now (k + 1) result }
+    requires { k < length names.now.bindings.brought.items }
+    ensures { IsConsidered names.now k token name.now best result }
 {
-    let b = brought[k];
-    if news[k] {
-        if is_in_scope(bytes, tokens, token, name, b) {
-            return better(best, b);
-        }
+    let b = item_at(&names.bindings.brought, k);
+    if is_in_scope(names.bytes, names.tokens, token, name, b) {
+        return better(best, b);
     }
     best
 }
 
-/// The declaration in a function that the name means at the token: the innermost one that is in scope there, and the first
-/// of its block; none where none is in scope. `news` says which of the names that came in are new.
-pub fn local_meant(
-    bytes: &[u8],
-    tokens: &[Token],
-    brought: &[Brought],
-    news: &[bool],
-    token: u32,
-    name: &[u8],
-) -> Option<Brought>
-    requires { AreNews bytes.now tokens.now brought.now news.now }
-    ensures { IsBest bytes.now tokens.now brought.now news.now token name.now (length brought.now) result }
+/// The number of the last new name before name k in its block with its text.
+fn before_at(befores: &[Option<usize>], k: usize) -> Option<usize>
+    requires { k < length befores.now }
+    ensures { slice_get befores.now k ≡ Some result }
 {
+    befores[k]
+}
+
+/// The declaration in the block that the name means at the token; none where none of the block is in scope.
+fn block_meant(names: &FileNames, opens: u32, token: u32, name: &[u8]) -> Option<Brought>
+    requires { AreNames names.now }
+    ensures { IsBestFrom names.now.bytes.now names.now.tokens.now names.now.bindings.brought.items names.now.news.items token name.now opens 0 result }
+{
+    let mut at = number_at(&names.links.lasts, opens, name);
     let mut best = None;
-    for k in 0..brought.len() {
-        best = step(bytes, tokens, brought, news, token, name, k, best);
+    while let Some(k) = at {
+        best = consider(names, k, token, name, best);
+        at = before_at(&names.links.befores, k);
     }
     best
+}
+
+/// The innermost block around the token, where there is one.
+fn block_at(around: &[Option<Span>], token: u32) -> Option<Span>
+    ensures { result ≡ entry_of (slice_get around.now token) }
+{
+    match around.get(token as usize) {
+        Some(span) => *span,
+        None => None,
+    }
+}
+
+/// The declaration in a function that the name means at the token: the innermost one that is in scope there, and the first
+/// of its block; none where none is in scope. It looks into each block around the token, from the innermost outwards.
+pub fn local_meant(names: &FileNames, token: u32, name: &[u8]) -> Option<Brought>
+    requires { AreNames names.now }
+    ensures { IsBest names.now.bytes.now names.now.tokens.now names.now.bindings.brought.items names.now.news.items token name.now (length names.now.bindings.brought.items) result }
+{
+    let mut block = block_at(&names.blocks.around, token);
+    while let Some(span) = block {
+        if let Some(b) = block_meant(names, span.opens, token, name) {
+            return Some(b);
+        }
+        block = span_at(&names.blocks.outers, span.opens);
+    }
+    None
 }

@@ -16,20 +16,20 @@ fn range_of(bytes: &[u8], start: usize, end: usize) -> &[u8]
 }
 
 /// The bytes of the token of this number; nothing where there is none. No memory.
-pub fn spelled_at<'a>(bytes: &'a [u8], tokens: &[Token], at: u32) -> &'a [u8]
+pub fn spelled_of<'a>(bytes: &'a [u8], tokens: &[Token], at: usize) -> &'a [u8]
     ensures { result.now ≡ text_in bytes.now tokens.now at }
 {
-    match tokens.get(at as usize) {
+    match tokens.get(at) {
         Some(token) => range_of(bytes, token.start as usize, token.end as usize),
         None => &[],
     }
 }
 
-/// Whether the two tokens have the same bytes.
-pub fn is_same(bytes: &[u8], tokens: &[Token], a: u32, b: u32) -> bool
-    ensures { IsTrue result ↔ (text_in bytes.now tokens.now a ≡ text_in bytes.now tokens.now b) }
+/// The bytes of the token of this number; nothing where there is none. No memory.
+pub fn spelled_at<'a>(bytes: &'a [u8], tokens: &[Token], at: u32) -> &'a [u8]
+    ensures { result.now ≡ text_in bytes.now tokens.now at }
 {
-    spelled_at(bytes, tokens, a) == spelled_at(bytes, tokens, b)
+    spelled_of(bytes, tokens, at as usize)
 }
 
 /// Whether the token has these bytes.

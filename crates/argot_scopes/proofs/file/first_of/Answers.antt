@@ -4,9 +4,9 @@ use Rattle.argot_scopes.proofs.file.first_of.Goals as goal
 pub returns-clause-some : goal.returns-clause-some
 returns-clause-some c =
     let n = c.args.names.now in
-    first_some n.bytes.now n.tokens.now n.tree.now.nodes n.bindings n.news.items c.requires c.deref.result.now c.args.token c.args.opens c.earliest_of.result c.deref.ensures.value c.earliest_of.ensures
+    first_some n c.requires c.deref.result.now c.args.token c.args.opens c.earliest_of.result c.deref.ensures.value c.earliest_of.ensures
 
 pub returns-clause-none : goal.returns-clause-none
 returns-clause-none c =
     let n = c.args.names.now in
-    first_none n.bytes.now n.tokens.now n.tree.now.nodes n.bindings n.news.items c.requires c.deref.result.now c.args.token c.args.opens c.earliest_of.result c.deref.ensures.value c.earliest_of.ensures
+    first_none n c.requires c.deref.result.now c.args.token c.args.opens c.earliest_of.result c.deref.ensures.value c.earliest_of.ensures

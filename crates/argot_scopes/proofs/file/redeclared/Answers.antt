@@ -4,9 +4,9 @@ use Rattle.argot_scopes.proofs.file.redeclared.Goals as goal
 pub returns-clause-some : goal.returns-clause-some
 returns-clause-some c =
     let n = c.args.names.now in
-    again_some n.bytes.now n.tokens.now n.tree.now.nodes n.bindings n.news.items c.requires c.deref.result.now c.first_again.result c.deref.ensures.value c.first_again.ensures
+    again_some n c.requires c.deref.result.now c.first_again.result c.deref.ensures.value c.first_again.ensures
 
 pub returns-clause-none : goal.returns-clause-none
 returns-clause-none c =
     let n = c.args.names.now in
-    again_none n.bytes.now n.tokens.now n.tree.now.nodes n.bindings n.news.items c.requires c.deref.result.now c.first_again.result c.deref.ensures.value c.first_again.ensures
+    again_none n c.requires c.deref.result.now c.first_again.result c.deref.ensures.value c.first_again.ensures

@@ -1,5 +1,8 @@
-use Rattle.argot_scopes.specs.Meant.{IsBest}
+use Rattle.argot_scopes.proofs.Walking.{height, Reaches}
 use Rattle.argot_scopes.proofs.meant.local_meant.Given as goal
 
-abbrev pub invariant-loop-k : goal.invariant-loop-k
-invariant-loop-k l = IsBest l.bytes l.tokens l.brought l.news l.token l.name l.k l.best
+abbrev pub invariant-loop-block : goal.invariant-loop-block
+invariant-loop-block l = Reaches l.names l.token l.name l.block
+
+abbrev pub decreases-loop-block : goal.decreases-loop-block
+decreases-loop-block l = height l.block
