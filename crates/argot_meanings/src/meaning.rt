@@ -1,0 +1,56 @@
+// The declaration that a name means at a token.
+ghost use Rattle.std.specs.Prelude.{◌≡◌, ℕ, List, Some, slice_get};
+ghost use Rattle.argot_naming.specs.declared.home.Home.{Home};
+ghost use Rattle.argot_naming.specs.Handed.{Handed};
+ghost use Rattle.argot_naming.specs.Imports.{IsReachedFile};
+ghost use Rattle.argot_scopes.specs.Names.{AreNames};
+ghost use Rattle.argot_reached.specs.declared.reached.Reached.{Reached};
+ghost use Rattle.argot_reached.specs.Reached.{homes_of};
+ghost use Rattle.argot_tops.specs.Tops.{IsNamesOf, AreTops};
+ghost use Rattle.argot_meanings.specs.Meanings.{IsMeaning};
+
+use argot_identifiers::predeclared_number;
+use argot_scopes::{FileNames, meant_at};
+use argot_tops::{Top, Tops, import_meant, top_meant};
+
+/// What a name means (Go specification: Declarations and scope).
+#[derive(Clone, Copy, Debug, PartialEq, Eq)]
+pub enum Meaning {
+    /// A declaration in a function of the same file, by its node.
+    Local(usize),
+    /// A package, by the number of the import among those of all files.
+    Import(usize),
+    /// A declaration outside functions.
+    Top(Top),
+    /// A predeclared name, by its number.
+    Predeclared(u32),
+    /// No declaration of it is in scope.
+    Nothing,
+}
+
+/// What the name means at the token of a file of the package of this number.
+pub fn meaning_of(
+    tops: &Tops,
+    names: &FileNames,
+    package: u32,
+    file: u32,
+    token: u32,
+    name: &[u8],
+) -> Meaning
+    requires { AreNames names.now }
+    ensures { (h : Handed) (main : List ℕ) (r : Reached) (home : Home) → AreTops h main r tops.now → IsNamesOf h file names.now → slice_get (homes_of h r) «package» ≡ Some home → IsReachedFile h main home file → IsMeaning h r home file token name.now result }
+{
+    if let Some(local) = meant_at(names, token, name) {
+        return Meaning::Local(local.node);
+    }
+    if let Some(import) = import_meant(tops, file, name) {
+        return Meaning::Import(import);
+    }
+    if let Some(top) = top_meant(tops, package, name) {
+        return Meaning::Top(top);
+    }
+    match predeclared_number(name) {
+        Some(number) => Meaning::Predeclared(number),
+        None => Meaning::Nothing,
+    }
+}

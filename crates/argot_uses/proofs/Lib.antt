@@ -1,0 +1,4 @@
+pub mod OfPackages
+pub mod Membership
+pub mod Faulty
+pub mod FirstUnresolved

@@ -1,0 +1,31 @@
+use Rattle.std.proofs.Common.{◌≡◌, ℕ, List, Option, Some, None, refl, sym, subst, ap, ◌∙◌}
+use Rattle.std.specs.Prelude.{slice_get}
+use Rattle.argot_packages.specs.declared.find.Found.{Found}
+use Rattle.argot_packages.specs.declared.find.Found.TheVariants as finds
+use Rattle.argot_uses.specs.Packages.{IsPackageMeant}
+use Rattle.argot_uses.specs.Faults.{IsExactly, IsMemberFault}
+use Rattle.argot_uses.proofs.Faulty.{member_passed, by_none, by_left_out, by_member, by_no_member}
+use Rattle.argot_uses.proofs.faults.member_fault.Goals as goal
+
+pub returns-then-is_passed_over : goal.returns-then-is_passed_over
+returns-then-is_passed_over c h main home at = member_passed h home c.args.file c.args.names.now at.names_are c.args.dotted (c.is_passed_over.ensures.there c.if-is_passed_over.true)
+
+pub returns-in_default : goal.returns-in_default
+returns-in_default c h main home at =
+    by_none h main c.args.reached.now home c.args.tops.now c.args.file c.args.names.now at c.args.dotted (subst (IsPackageMeant h c.args.reached.now home c.args.file c.args.dotted.token) c.in_default.is (c.package_meant.ensures h main c.args.reached.now home at))
+
+pub returns-then-is_left_out : goal.returns-then-is_left_out
+returns-then-is_left_out c h main home at =
+    by_left_out h main c.args.reached.now home c.args.tops.now c.args.file c.args.names.now at c.args.dotted c.in-Some.import c.package_meant.result c.in-Some.is (c.package_meant.ensures h main c.args.reached.now home at)
+    (subst (λ fs. slice_get fs c.in-Some.import ≡ Some finds.LeftOut) c.deref.ensures.value (c.if-is_left_out.ensures.0 refl))
+
+pub returns-in-Some-member_meant : goal.returns-in-Some-member_meant
+returns-in-Some-member_meant c h main home at =
+    by_member h main c.args.reached.now home c.args.tops.now c.args.file c.args.names.now at c.args.dotted c.in-Some.import c.package_meant.result c.spelled_of-name.result.now c.in-Some-member_meant.field-0 c.member_meant.result c.in-Some.is (c.package_meant.ensures h main c.args.reached.now home at) c.spelled_of-name.ensures c.in-Some-member_meant.is
+    (λ w is. c.member_meant.ensures h main w at.tops_are is)
+
+pub returns-in-None : goal.returns-in-None
+returns-in-None c h main home at =
+    by_no_member h main c.args.reached.now home c.args.tops.now c.args.file c.args.names.now at c.args.dotted c.in-Some.import c.package_meant.result c.spelled_of-name.result.now c.member_meant.result c.start_at.result c.in-Some.is (c.package_meant.ensures h main c.args.reached.now home at) c.spelled_of-name.ensures c.in-None.is
+    (λ w is. c.member_meant.ensures h main w at.tops_are is) (c.is_passed_over.ensures.none c.if-is_passed_over.false)
+    (λ out. let never = c.if-is_left_out.ensures.1 (subst (λ fs. slice_get fs c.in-Some.import ≡ Some finds.LeftOut) (sym c.deref.ensures.value) out) in absurd (cc)) c.start_at.ensures
