@@ -1,0 +1,12 @@
+pub mod NodeSums
+pub mod Filling
+pub mod Giving
+pub mod NodeClasses
+pub mod Numbered
+pub mod TopItems
+pub mod NewItems
+pub mod ImportItems
+pub mod OneName
+pub mod InOrder
+pub mod Gathered
+pub mod Predeclaring

@@ -1,0 +1,5 @@
+pub mod Bases
+pub mod Tables
+pub mod Items
+pub mod Givers
+pub mod Ordered
