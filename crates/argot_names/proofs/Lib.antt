@@ -1,3 +1,4 @@
 pub mod Members
 pub mod Ordered
 pub mod Named
+pub mod Refusing

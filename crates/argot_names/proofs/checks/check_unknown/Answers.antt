@@ -1,0 +1,21 @@
+use Rattle.std.proofs.Common.{subst}
+use Rattle.std.specs.Prelude.{IfSome, IfNone}
+use Rattle.argot_naming.specs.Handed.{IsFirst}
+use Rattle.argot_naming.specs.Faults.{IsUnresolved, IsNowhere, Unknown, memory}
+use Rattle.argot_packages.specs.Reads.{handed}
+use Rattle.argot_tops.specs.Places.{place_of}
+use Rattle.argot_names.proofs.Refusing.{unknown_refused}
+use Rattle.argot_names.proofs.checks.check_unknown.Goals as goal
+
+pub returns-in-Ok-Some-clause-fault : goal.returns-in-Ok-Some-clause-fault
+returns-in-Ok-Some-clause-fault c lexed trees main t once =
+    let h = handed c.args.sources.now lexed trees in
+    unknown_refused h main c.args.reached.now c.args.tops.now t once (place_of c.in-Ok-Some.place) c.place_at.result (subst (λ o. IfSome o (λ p. IsFirst (IsUnresolved h main) (place_of p))) c.in-Ok-Some.field-0-is (c.in-Ok-Some.ensures.some h main t)) (c.place_at.ensures lexed trees)
+
+pub returns-in-Ok-None-clause-fine : goal.returns-in-Ok-None-clause-fine
+returns-in-Ok-None-clause-fine c lexed trees main t =
+    let h = handed c.args.sources.now lexed trees in
+    subst (λ o. IfNone o (IsNowhere h main Unknown)) c.in-Ok-None.field-0-is (c.in-Ok-None.ensures.none h main t)
+
+pub returns-in-Err-clause-fault : goal.returns-in-Err-clause-fault
+returns-in-Err-clause-fault c lexed trees main t once = memory

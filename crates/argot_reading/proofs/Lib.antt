@@ -1,0 +1,4 @@
+pub mod Fitting
+pub mod Read
+pub mod Parts
+pub mod Agreement
