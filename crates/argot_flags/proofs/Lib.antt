@@ -1,0 +1,12 @@
+pub mod Keys
+pub mod Order
+pub mod Adding
+pub mod Exactly
+pub mod PartLemmas
+pub mod NameLemmas
+pub mod ReceiverLemmas
+pub mod Noting
+pub mod Commenting
+pub mod Counting
+pub mod Gathering
+pub mod Standing

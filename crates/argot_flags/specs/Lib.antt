@@ -1,0 +1,8 @@
+pub mod Spots
+pub mod Exact
+pub mod Atoms
+pub mod Receivers
+pub mod Parts
+pub mod Files
+pub mod Tables
+pub mod Standings
