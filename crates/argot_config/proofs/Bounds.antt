@@ -2,10 +2,11 @@
 use Rattle.std.proofs.Common.{ℕ, ◌<◌, List, length}
 use Rattle.std.proofs.lemmas.Option.{slice_get_within}
 use Rattle.argot_plain.specs.Code.{Code}
+use Rattle.argot_plain.specs.Fitting.{Fits}
 use Rattle.argot_plain.specs.declared.problems.Problem.{Problem}
 use Rattle.argot_config_read.specs.declared.config.Asked.{Asked}
 use Rattle.argot_config_read.specs.declared.config.Matcher.{Matcher}
-use Rattle.argot_config.specs.Asking.{Fits, IsNamed, IsProblem}
+use Rattle.argot_config.specs.Asking.{IsNamed, IsProblem}
 
 named_below : (p : Code) (ms : List Matcher) (g : ℕ) → IsNamed p ms g → g < length p.functions
 named_below p ms g n = slice_get_within p.functions g n.fn n.is

@@ -1,5 +1,5 @@
 -- What a problem of a configuration asks of a program.
-use Rattle.std.specs.Prelude.{◌≡◌, ◌<◌, ◌++◌, ℕ, Some, List, [], ◌∷◌, AllPairs, codes, true, false, length, slice_get, if◌then◌else◌}
+use Rattle.std.specs.Prelude.{◌≡◌, ◌<◌, ◌++◌, ℕ, Some, List, [], ◌∷◌, AllPairs, codes, true, false, slice_get, if◌then◌else◌}
 use Rattle.argot_plain.specs.Code.{Code, IsFunction}
 use Rattle.argot_plain.specs.Lists.{In}
 use Rattle.argot_plain.specs.WellFormed.{IsReadOrMove}
@@ -68,12 +68,3 @@ pub record IsProblem (p : Code) (asked : Asked) (k : ℕ) (pr : Problem) : Type 
   pub points : AreFunctions p asked.points pr.points
   pub places : ArePlaces p asked.sources pr.source_places
   pub same_escapes : pr.escapes ≡ asked.escapes
-
--- the functions and places that the problem names are the program's
-pub record Fits (p : Code) (pr : Problem) : Type 0 where
-  pub sources : (g : ℕ) → In g pr.sources → g < length p.functions
-  pub sinks : (g : ℕ) → In g pr.sinks → g < length p.functions
-  pub sanitizers : (g : ℕ) → In g pr.sanitizers → g < length p.functions
-  pub validators : (g : ℕ) → In g pr.validators → g < length p.functions
-  pub points : (g : ℕ) → In g pr.points → g < length p.functions
-  pub places : (i : ℕ) (name : List ℕ) → In (i, name) pr.source_places → i < length p.instrs

@@ -1,6 +1,7 @@
 // A problem of a configuration, for a program.
 ghost use Rattle.std.specs.Prelude.{◌<◌, IfOk, IfSome, length, slice_get};
-ghost use Rattle.argot_config.specs.Asking.{Fits, IsProblem};
+ghost use Rattle.argot_plain.specs.Fitting.{Fits};
+ghost use Rattle.argot_config.specs.Asking.{IsProblem};
 
 use crate::functions::functions;
 use crate::places::places;

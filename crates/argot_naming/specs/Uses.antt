@@ -63,7 +63,8 @@ pub record IsMember (h : Handed) (path name : List ℕ) (file node : ℕ) : Type
   pub top : IsTop h target name file node place
   pub exported : IsExported name
 
--- the first name of its block with that text, which a later `:=` assigns to
+-- the first name of its block with that text, which a later `:=` assigns to. Should two nodes bring one name there, it is
+-- the first of them
 pub record IsFirstOf (f : Read) (token opens node : ℕ) : Type 0 where
   pub manner : Manner
   pub at : ℕ
@@ -73,6 +74,7 @@ pub record IsFirstOf (f : Read) (token opens node : ℕ) : Type 0 where
   pub same : text_at f at ≡ text_at f token
   pub earlier : at < token
   pub first : HasEarlier f at opens → ⊥
+  pub least : {how : Manner} {other closes from : ℕ} → Brings f.nodes how other at opens closes from → node ≤ other
 
 -- what a node of a file stands for
 pub data StandsFor (h : Handed) (home : Home) (file : ℕ) : ℕ → Declaration → Type 0 where

@@ -9,3 +9,4 @@ pub mod Outside
 pub mod Step
 pub mod Leak
 pub mod First
+pub mod Fitting
