@@ -13,10 +13,10 @@ use Rattle.argot_decls.specs.Tables.{AreDeclNumbers}
 use Rattle.argot_standing.specs.declared.known.Known.{Known}
 
 pub record AreKnown (h : Handed) (main : List ℕ) (decls : List Decl) (k : Known) : Type 0 where
-  pub tops : AreTops h main k.reached.now k.tops.now
-  pub decls : AreDecls h (homes_of h k.reached.now) decls
-  pub bases : AreBases h.trees k.bases.now
-  pub numbers : AreDeclNumbers decls (count_nodes h.trees) k.numbers.now
+  pub tops_are : AreTops h main k.reached.now k.tops.now
+  pub decls_are : AreDecls h (homes_of h k.reached.now) decls
+  pub bases_are : AreBases h.trees k.bases.now
+  pub numbers_are : AreDeclNumbers decls (count_nodes h.trees) k.numbers.now
 
 -- the names are those of a file of the package of that number
 pub record IsHere (h : Handed) (main : List ℕ) (home : Home) (decls : List Decl) (k : Known) (n : FileNames) (package_ file : ℕ) : Type 0 where

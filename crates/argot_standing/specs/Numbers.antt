@@ -26,4 +26,5 @@ StandsBy h home decls file node number = IsMeantBy (StandsFor h home file node) 
 -- the answer is the number that the claim holds of, where it holds of one; where something else holds it may be left out
 pub record IsExactlyUnless (Otherwise : Type 0) (Holds : ℕ → Type 0) (result : Option ℕ) : Type 0 where
   pub sound : (x : ℕ) → result ≡ Some x → Holds x
+  pub only : (x y : ℕ) → result ≡ Some x → Holds y → x ≡ y
   pub complete : (x : ℕ) → (Otherwise → ⊥) → Holds x → result ≡ Some x

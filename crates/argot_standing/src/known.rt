@@ -13,6 +13,7 @@ use argot_reached::Reached;
 use argot_tops::Tops;
 
 /// The packages, what they declare, and how nodes and declarations are numbered.
+#[derive(Clone, Copy)]
 pub struct Known<'s, 'a> {
     /// For each file how many nodes stand before it.
     pub bases: &'s [u32],

@@ -19,10 +19,10 @@ use argot_tree::{NodeKind, TreeNode};
 use argot_uses::is_blank;
 
 // Whether the node is the name of a type behind that of a package.
-fn is_qualified(nodes: &[TreeNode], node: usize) -> bool
-    ensures { IsTrue result ↔ Is nodes.now node nodes.QualifiedType }
+fn is_qualified(tree: &[TreeNode], node: usize) -> bool
+    ensures { IsTrue result ↔ Is tree.now node nodes.QualifiedType }
 {
-    match nodes.get(node) {
+    match tree.get(node) {
         Some(found) => matches!(found.kind, NodeKind::QualifiedType),
         None => false,
     }
@@ -41,7 +41,7 @@ pub fn lone_number(
     requires seen { IsSeen names.now.tree.now.nodes looked }
     ensures { (h : Handed) (main : List ℕ) (home : Home) (decls : List Decl) → IsHere h main home decls known.now names.now «package» file → IsExactlyUnless (Is names.now.tree.now.nodes looked.node nodes.QualifiedType) (StandsBy h home decls file looked.node) result }
 {
-    if is_qualified(&names.tree.nodes, looked.node) {
+    if is_qualified(names.tree.nodes.as_slice(), looked.node) {
         return None;
     }
     let name = spelled_at(names.bytes, names.tokens, looked.token);
