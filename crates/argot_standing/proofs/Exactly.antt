@@ -1,6 +1,6 @@
 -- The answers of looks into a file's lists are the numbers of what the nodes stand for.
-use Rattle.std.proofs.Common.{◌≡◌, ◌≢◌, ℕ, List, Option, Some, None, inl, inr, refl, sym, ap, ◌∙◌, subst, codes}
-use Rattle.std.specs.Prelude.{◌⊎◌, slice_get, IfSome, IsNone}
+use Rattle.std.proofs.Common.{◌≡◌, ◌≢◌, ℕ, List, Option, Some, None, refl, sym, ap, ◌∙◌, subst, codes}
+use Rattle.std.specs.Prelude.{slice_get}
 use Rattle.argot_tree.specs.declared.node_kind.NodeKind.TheVariants as nodes
 use Rattle.argot_tree.specs.declared.tree.TreeNode.{TreeNode}
 use Rattle.argot_typed.specs.declared.program.Decl.{Decl}
@@ -8,17 +8,16 @@ use Rattle.argot_naming.specs.declared.home.Home.{Home}
 use Rattle.argot_naming.specs.Handed.{Handed, Read, read_of, text_at}
 use Rattle.argot_naming.specs.Imports.{IsReachedFile}
 use Rattle.argot_naming.specs.Loaded.{top as declares_top}
-use Rattle.argot_naming.specs.Locals.{Manner, Defined, Brings, HasEarlier}
+use Rattle.argot_naming.specs.Locals.{Defined, Brings, HasEarlier}
 use Rattle.argot_naming.specs.Nodes.{Is}
 use Rattle.argot_naming.specs.Scopes.{Declaration, Declared, Means}
 use Rattle.argot_naming.specs.Uses.{IsLooked, IsDotted, IsOfPackage, IsMember, IsFirstOf, StandsFor}
 use Rattle.argot_naming.specs.Uses.StandsFor.{member as stands_member, assigned as stands_assigned}
-use Rattle.argot_packages.specs.declared.written.Written.{Written}
 use Rattle.argot_bindings.specs.declared.bindings.Looked.{Looked}
 use Rattle.argot_bindings.specs.declared.looked.Dotted.{Dotted}
 use Rattle.argot_bindings.specs.declared.brought.Brought.{Brought}
 use Rattle.argot_bindings.specs.declared.brought.Manner.TheVariants as manners
-use Rattle.argot_bindings.specs.Brought.{manner_of, written_of, IsBrought}
+use Rattle.argot_bindings.specs.Brought.{manner_of, IsBrought}
 use Rattle.argot_bindings.specs.Listing.{IsSeen, IsMemberName}
 use Rattle.argot_scopes.specs.declared.file.FileNames.{FileNames}
 use Rattle.argot_scopes.specs.Files.{file_of}

@@ -1,15 +1,14 @@
 -- The table of uses grows by what one node after the other stands for.
-use Rattle.std.proofs.Common.{◌≡◌, ℕ, ◌+◌, ◌<◌, List, length, true, false, Option, Some, None, inl, inr, refl, sym, ap, ◌∙◌, subst, arith}
+use Rattle.std.proofs.Common.{◌≡◌, ℕ, ◌+◌, ◌<◌, List, length, Option, Some, None, inl, inr, refl, sym, ap, ◌∙◌, subst, arith}
 use Rattle.std.specs.Prelude.{◌⊎◌, slice_get}
 use Rattle.std.proofs.lemmas.Bool.{cases_eq}
-use Rattle.argot_tree.specs.declared.node_kind.NodeKind.TheVariants as nodes
 use Rattle.argot_tree.specs.declared.tree.TreeNode.{TreeNode}
 use Rattle.argot_tree.specs.declared.tree.Tree.{Tree}
 use Rattle.argot_typed.specs.declared.program.Decl.{Decl}
 use Rattle.argot_typed.specs.declared.program.Use.{Use}
 use Rattle.argot_naming.specs.declared.home.Home.{Home}
 use Rattle.argot_naming.specs.Handed.{Handed, read_of}
-use Rattle.argot_naming.specs.Loaded.{number_of, IsUse, count_nodes}
+use Rattle.argot_naming.specs.Loaded.{number_of, IsUse}
 use Rattle.argot_naming.specs.Uses.{StandsFor}
 use Rattle.argot_bindings.specs.Parents.{put}
 use Rattle.argot_bindings.proofs.Parenting.{put_kept, put_there, put_long}
@@ -22,7 +21,7 @@ use Rattle.argot_decls.proofs.Numbered.{tree_of, number_below, one_node}
 use Rattle.argot_uses.specs.Faults.{IsExactly}
 use Rattle.argot_standing.specs.declared.known.Known.{Known}
 use Rattle.argot_standing.specs.Numbers.{StandsBy, IsExactlyUnless}
-use Rattle.argot_standing.specs.Known.{AreKnown, IsHere}
+use Rattle.argot_standing.specs.Known.{IsHere}
 use Rattle.argot_standing.specs.Tables.{noted, use_by, IsFilled, IsAmong}
 use Rattle.argot_standing.proofs.Numbering.{some_is}
 use Rattle.argot_standing.proofs.Standing.{stands_there}

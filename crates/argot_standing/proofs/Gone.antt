@@ -1,17 +1,15 @@
 -- Which nodes of a file have been gone over, and that these are all that stand for something.
-use Rattle.std.proofs.Common.{◌≡◌, ◌≢◌, ℕ, ◌+◌, ◌<◌, List, length, Bool, true, false, Option, Some, None, inl, inr, refl, sym, ap, ◌∙◌, subst, arith}
+use Rattle.std.proofs.Common.{◌≡◌, ℕ, ◌+◌, ◌<◌, List, length, true, false, Some, inl, inr, refl, sym, subst, arith}
 use Rattle.std.specs.Prelude.{◌⊎◌, slice_get}
-use Rattle.std.proofs.lemmas.Bool.{cases_eq}
-use Rattle.argot_tree.specs.declared.node_kind.NodeKind.{NodeKind}
 use Rattle.argot_tree.specs.declared.node_kind.NodeKind.TheVariants as nodes
 use Rattle.argot_tree.specs.declared.tree.TreeNode.{TreeNode}
 use Rattle.argot_naming.specs.declared.home.Home.{Home}
-use Rattle.argot_naming.specs.Handed.{Handed, read_of}
+use Rattle.argot_naming.specs.Handed.{Handed}
 use Rattle.argot_naming.specs.Lists.{In}
 use Rattle.argot_naming.specs.Locals.{Defined, Brings}
 use Rattle.argot_naming.specs.Nodes.{Spans, Is}
 use Rattle.argot_naming.specs.Scopes.{Declaration}
-use Rattle.argot_naming.specs.Uses.{IsLooked, IsDotted, IsKey, StandsFor}
+use Rattle.argot_naming.specs.Uses.{IsLooked, IsDotted, StandsFor}
 use Rattle.argot_naming.specs.Uses.IsLooked.{value as looked_value, type_ as looked_type, package_ as looked_package}
 use Rattle.argot_naming.specs.Uses.StandsFor.{value, type_, member, assigned}
 use Rattle.argot_packages.proofs.Lists.{get_below}
@@ -20,7 +18,6 @@ use Rattle.argot_bindings.specs.declared.looked.Dotted.{Dotted}
 use Rattle.argot_bindings.specs.declared.brought.Brought.{Brought}
 use Rattle.argot_bindings.specs.declared.brought.Manner.TheVariants as manners
 use Rattle.argot_scopes.specs.declared.file.FileNames.{FileNames}
-use Rattle.argot_scopes.specs.Names.{AreNames}
 use Rattle.argot_tops.specs.Tops.{IsNamesOf}
 use Rattle.argot_standing.specs.Tables.{IsAmong, SeenIn, Seen}
 use Rattle.argot_standing.proofs.NodeRoles.{HasRole, role_of, role_there, one_role}

@@ -1,11 +1,10 @@
 -- A name is the key of an item or isn't.
-use Rattle.std.proofs.Common.{◌≡◌, ℕ, zero, suc, List, [], ◌∷◌, Bool, true, false, Option, Some, None, inl, inr, refl, sym, ap, ◌∙◌, subst}
+use Rattle.std.proofs.Common.{◌≡◌, ℕ, zero, suc, List, [], ◌∷◌, Bool, true, false, Option, Some, None, inl, inr, refl, sym, ◌∙◌, subst}
 use Rattle.std.specs.Prelude.{◌⊎◌, slice_get}
 use Rattle.std.proofs.lemmas.Bool.{cases_eq}
 use Rattle.argot_tree.specs.declared.node_kind.NodeKind.{NodeKind}
 use Rattle.argot_tree.specs.declared.node_kind.NodeKind.TheVariants as nodes
 use Rattle.argot_tree.specs.declared.tree.TreeNode.{TreeNode}
-use Rattle.argot_naming.specs.Nodes.{IsFirstChild}
 use Rattle.argot_naming.specs.Uses.{IsKey}
 use Rattle.argot_bindings.proofs.Finding.{spans_of}
 use Rattle.argot_standing.proofs.Numbering.{some_is}
@@ -67,8 +66,8 @@ key_or tree node =
         first = record { is = h.item; there = h.there; first = h.is.first_is };
       })
       | inr none ↦ inr (λ k.
-        let s = k.is_item.spans in
-        let x : TreeNode = record { kind = nodes.KeyedItem; token = k.is_item.token; last = k.is_item.last; first = s.first; next = s.next } in
-        let same : k.first.is ≡ x = some_is k.first.is x (sym k.first.there ∙ s.there) in
-        none (record { place = k.item; item = x; there = s.there; is = record { kind_is = refl; first_is = subst (λ (y : TreeNode). y.first ≡ Some node) same k.first.first } }))
+          let s = k.is_item.spans in
+          let x : TreeNode = record { kind = nodes.KeyedItem; token = k.is_item.token; last = k.is_item.last; first = s.first; next = s.next } in
+          let same : k.first.is ≡ x = some_is k.first.is x (sym k.first.there ∙ s.there) in
+          none (record { place = k.item; item = x; there = s.there; is = record { kind_is = refl; first_is = subst (λ (y : TreeNode). y.first ≡ Some node) same k.first.first } }))
     ]

@@ -6,3 +6,5 @@ pub mod Exactly
 pub mod Keys
 pub mod Filled
 pub mod Gone
+pub mod Reading
+pub mod Files

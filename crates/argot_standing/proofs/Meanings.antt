@@ -1,5 +1,5 @@
 -- The number of the declaration that a name means.
-use Rattle.std.proofs.Common.{◌≡◌, ℕ, List, Option, Some, None, refl, sym, ap, ◌∙◌, subst}
+use Rattle.std.proofs.Common.{◌≡◌, ℕ, List, Option, Some, None, subst}
 use Rattle.std.specs.Prelude.{slice_get}
 use Rattle.argot_tree.specs.declared.tree.TreeNode.{TreeNode}
 use Rattle.argot_typed.specs.declared.program.Decl.{Decl}

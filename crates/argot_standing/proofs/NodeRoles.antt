@@ -1,10 +1,10 @@
 -- The kinds of the nodes that stand for declarations: a node stands for one in one way.
-use Rattle.std.proofs.Common.{◌≡◌, ℕ, List, Some, inl, inr, refl, sym, ap, ◌∙◌, subst, arith}
+use Rattle.std.proofs.Common.{◌≡◌, ℕ, List, Some, inl, inr, refl, sym, ap, ◌∙◌}
 use Rattle.std.specs.Prelude.{◌⊎◌, slice_get}
 use Rattle.argot_tree.specs.declared.node_kind.NodeKind.{NodeKind}
 use Rattle.argot_tree.specs.declared.node_kind.NodeKind.TheVariants as nodes
 use Rattle.argot_tree.specs.declared.tree.TreeNode.{TreeNode}
-use Rattle.argot_naming.specs.Nodes.{Spans, Is}
+use Rattle.argot_naming.specs.Nodes.{Spans}
 use Rattle.argot_naming.specs.Locals.{Manner, HasColon, of_case, of_default, Brings, value, type_, define, range, receive, parameter, switched}
 use Rattle.argot_naming.specs.Uses.{IsDefined, IsDotted}
 use Rattle.argot_naming.specs.Uses.IsDotted.{selector as dotted_selector, type_ as dotted_type}

@@ -1,13 +1,12 @@
 -- The number of a declaration is one.
-use Rattle.std.proofs.Common.{◌≡◌, ℕ, zero, suc, ◌+◌, ◌<◌, List, [], ◌∷◌, ◌++◌, length, Bool, true, false, Option, Some, None, inl, inr, refl, sym, ap, ◌∙◌, subst, arith}
+use Rattle.std.proofs.Common.{◌≡◌, ℕ, zero, suc, ◌+◌, List, [], ◌∷◌, length, Bool, true, false, Option, Some, None, inl, inr, refl, sym, ap, ◌∙◌, subst, arith}
 use Rattle.std.specs.Prelude.{◌&&◌, not, map, slice_get, IfSome, IfNone}
-use Rattle.argot_tree.specs.declared.tree.TreeNode.{TreeNode}
 use Rattle.argot_typed.specs.declared.program.Decl.{Decl}
 use Rattle.argot_naming.specs.declared.home.Home.{Home}
-use Rattle.argot_naming.specs.Handed.{Handed, read_of}
+use Rattle.argot_naming.specs.Handed.{Handed}
 use Rattle.argot_naming.specs.Loaded.{number_of, DeclBefore, predeclared_decl, AreDecls}
 use Rattle.argot_naming.specs.Predeclared.{is_among, predeclared}
-use Rattle.argot_naming.specs.Scopes.{Declaration, Predeclared, Declared}
+use Rattle.argot_naming.specs.Scopes.{Predeclared, Declared}
 use Rattle.argot_packages.proofs.Lists.{get_two, get_before, get_map, map_get}
 use Rattle.argot_identifiers.proofs.Among.{among_at}
 use Rattle.argot_tops.proofs.Ordering.{ordered_all}
@@ -96,11 +95,11 @@ module _ (h : Handed) (homes : List Home) (decls : List Decl) (are : AreDecls h 
   predeclared_number_is name number e =
       record {
         sound = λ x f. subst (IsNumberOf h decls (Predeclared name)) (some_is number x f)
-        (record {
-          decl = predeclared_decl name;
-          there = subst (λ ds. slice_get ds number ≡ Some (predeclared_decl name)) (sym are.is) (get_before (map predeclared_decl predeclared) are.others number (predeclared_decl name) (map_get predeclared_decl predeclared number name e));
-          is = (refl, refl);
-        });
+            (record {
+              decl = predeclared_decl name;
+              there = subst (λ ds. slice_get ds number ≡ Some (predeclared_decl name)) (sym are.is) (get_before (map predeclared_decl predeclared) are.others number (predeclared_decl name) (map_get predeclared_decl predeclared number name e));
+              is = (refl, refl);
+            });
         complete = λ x i. elim (get_two (map predeclared_decl predeclared) are.others x i.decl (subst (λ ds. slice_get ds x ≡ Some i.decl) are.is i.there)) [
           | inl f ↦
               let g = get_map predeclared_decl predeclared x i.decl f in

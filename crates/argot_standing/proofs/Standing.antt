@@ -1,13 +1,12 @@
 -- A node stands for one declaration, by the list in which it is found.
-use Rattle.std.proofs.Common.{◌≡◌, ◌≢◌, ℕ, ◌<◌, ◌≤◌, List, length, Option, Some, None, inl, inr, refl, sym, ap, ◌∙◌, subst, arith}
+use Rattle.std.proofs.Common.{◌≡◌, ◌≢◌, ℕ, ◌<◌, ◌≤◌, List, Some, inl, inr, refl, sym, ap, ◌∙◌, subst, arith}
 use Rattle.std.specs.Prelude.{◌⊎◌, codes, slice_get}
 use Rattle.argot_tree.specs.declared.node_kind.NodeKind.TheVariants as nodes
 use Rattle.argot_tree.specs.declared.tree.TreeNode.{TreeNode}
-use Rattle.argot_typed.specs.declared.program.Decl.{Decl}
 use Rattle.argot_naming.specs.declared.home.Home.{Home}
 use Rattle.argot_naming.specs.Handed.{Handed, Read, read_of, text_at}
-use Rattle.argot_naming.specs.Lists.{In, IsListOf}
-use Rattle.argot_naming.specs.Locals.{Manner, Defined, Brings}
+use Rattle.argot_naming.specs.Lists.{IsListOf}
+use Rattle.argot_naming.specs.Locals.{Defined, Brings}
 use Rattle.argot_naming.specs.Nodes.{Spans, Is}
 use Rattle.argot_naming.specs.Scopes.{Declaration, Declared, Means}
 use Rattle.argot_naming.specs.Tops.{IsTop}

@@ -1,10 +1,11 @@
 -- The table of uses, by the numbers of nodes, as it is filled.
-use Rattle.std.specs.Prelude.{◌≡◌, ◌⊎◌, ℕ, ◌+◌, ◌<◌, List, Option, Some, None, length, slice_get}
+use Rattle.std.specs.Prelude.{◌≡◌, ◌⊎◌, ℕ, ◌<◌, List, Option, Some, None, length, slice_get}
 use Rattle.argot_tree.specs.declared.node_kind.NodeKind.TheVariants as nodes
 use Rattle.argot_typed.specs.declared.program.Decl.{Decl}
 use Rattle.argot_typed.specs.declared.program.Use.{Use}
 use Rattle.argot_naming.specs.declared.home.Home.{Home}
 use Rattle.argot_naming.specs.Handed.{Handed}
+use Rattle.argot_naming.specs.Lists.{IsListOf}
 use Rattle.argot_naming.specs.Loaded.{IsUse, count_nodes}
 use Rattle.argot_naming.specs.Nodes.{Is}
 use Rattle.argot_bindings.specs.Parents.{put}
@@ -52,3 +53,7 @@ Seen n one lone members brought file node = (file < one) ⊎ ((file ≡ one) × 
 pub record IsTable (h : Handed) (homes : List Home) (decls : List Decl) (count : ℕ) (table : List (Option ℕ)) : Type 0 where
   pub sound : (node decl : ℕ) → slice_get table node ≡ Some (Some decl) → IsUse h homes decls (use_by node decl)
   pub complete : (use_ : Use) → IsUse h homes decls use_ → (use_.node < count) × (slice_get table use_.node ≡ Some (Some use_.decl))
+
+-- those of nodes below a number
+abbrev pub UsesBelow : Handed → List Home → List Decl → ℕ → List Use → Type 0
+UsesBelow h homes decls count uses = IsListOf (λ (a b : Use). a.node < b.node) (λ (u : Use). IsUse h homes decls u × (u.node < count)) uses

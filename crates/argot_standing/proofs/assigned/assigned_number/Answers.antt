@@ -1,8 +1,4 @@
-use Rattle.std.proofs.Common.{◌≡◌, ℕ, List, Option, Some, None, refl, sym, subst}
-use Rattle.std.specs.Prelude.{slice_get}
-use Rattle.argot_tree.specs.declared.tree.TreeNode.{TreeNode}
-use Rattle.argot_naming.specs.Handed.{read_of}
-use Rattle.argot_scopes.specs.Files.{file_of}
+use Rattle.std.proofs.Common.{refl}
 use Rattle.argot_uses.proofs.Faulty.{text_is}
 use Rattle.argot_standing.proofs.Exactly.{not_defined, blank_assigned, no_first, first_exactly, first_there}
 use Rattle.argot_standing.proofs.assigned.assigned_number.Goals as goal

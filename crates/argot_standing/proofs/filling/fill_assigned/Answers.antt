@@ -1,4 +1,4 @@
-use Rattle.std.proofs.Common.{◌≡◌, ◌+◌, ℕ, Some, subst}
+use Rattle.std.proofs.Common.{◌≡◌, ◌+◌, Some, subst}
 use Rattle.std.specs.Prelude.{slice_get}
 use Rattle.argot_naming.specs.Locals.{Brings}
 use Rattle.argot_bindings.specs.Brought.{manner_of}

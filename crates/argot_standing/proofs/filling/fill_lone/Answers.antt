@@ -1,4 +1,4 @@
-use Rattle.std.proofs.Common.{◌≡◌, ◌+◌, ℕ, Some, subst}
+use Rattle.std.proofs.Common.{◌≡◌, ◌+◌, Some, subst}
 use Rattle.std.specs.Prelude.{slice_get}
 use Rattle.argot_tree.specs.declared.node_kind.NodeKind.TheVariants as nodes
 use Rattle.argot_naming.specs.Nodes.{Is}

@@ -1,4 +1,4 @@
-use Rattle.std.proofs.Common.{◌≡◌, ◌+◌, ℕ, Some, subst}
+use Rattle.std.proofs.Common.{◌≡◌, ◌+◌, Some, subst}
 use Rattle.std.specs.Prelude.{slice_get}
 use Rattle.argot_naming.specs.Uses.{IsDotted}
 use Rattle.argot_standing.specs.Numbers.{StandsBy}

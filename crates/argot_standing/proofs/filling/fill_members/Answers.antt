@@ -1,4 +1,4 @@
-use Rattle.std.proofs.Common.{ℕ, length, subst, arith}
+use Rattle.std.proofs.Common.{subst, arith}
 use Rattle.argot_standing.specs.Tables.{IsFilled, Seen}
 use Rattle.argot_standing.proofs.filling.fill_members.Goals as goal
 

@@ -1,4 +1,3 @@
-use Rattle.std.proofs.Common.{◌≡◌, ℕ, List, Option, Some, None, refl, sym, subst}
 use Rattle.argot_uses.proofs.Faulty.{text_is}
 use Rattle.argot_standing.proofs.Exactly.{no_package, no_member, member_there, member_exactly, import_of, import_in}
 use Rattle.argot_standing.proofs.members.member_number.Goals as goal

@@ -1,5 +1,5 @@
-use Rattle.std.proofs.Common.{◌≡◌, ℕ, Some, sym, ◌∙◌, subst}
-use Rattle.argot_naming.specs.Scopes.{Means, Predeclared, Declared}
+use Rattle.std.proofs.Common.{Some, subst}
+use Rattle.argot_naming.specs.Scopes.{Predeclared, Declared}
 use Rattle.argot_reached.specs.Reached.{homes_of}
 use Rattle.argot_meanings.specs.Meanings.{IsMeaning}
 use Rattle.argot_standing.proofs.Numbering.{predeclared_number_is}

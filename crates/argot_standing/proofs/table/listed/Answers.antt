@@ -1,21 +1,22 @@
-use Rattle.std.proofs.Common.{rules, ◌≡◌, ◌<◌, ℕ, List, Some, IfOk, slice_get, ◌+◌, ◌-◌, ◌*◌, ◌≤◌, length, ◌/◌, ◌%◌, Bool, true, false, nat_eq, nat_lt, [], ◌∷◌, ◌++◌, slice_index_or, slice_set, bit_and, bit_or, Fits, w8, w32, w64, Bor, MutBor}
-use Rattle.argot_typed.specs.declared.program.Decl.{Decl}
-use Rattle.argot_typed.specs.declared.program.Use.{Use}
-use Rattle.argot_naming.specs.Lists.{IsListOf}
-use Rattle.argot_naming.specs.Loaded.{IsUse}
-use Rattle.argot_naming.specs.declared.home.Home.{Home}
-use Rattle.argot_naming.specs.Handed.{Handed}
-use Rattle.argot_standing.specs.Tables.{noted, IsTable}
+use Rattle.std.proofs.Common.{refl, ap, ◌∙◌, arith}
+use Rattle.argot_standing.proofs.Reading.{below_none, below_same, below_more, below_all}
 use Rattle.argot_standing.proofs.table.listed.Goals as goal
+use Rattle.argot_standing.proofs.table.listed.Goals.{in-Some+in_ok-push, in_default}
 
--- src/table.rt:30:5
 pub loop-node-init : goal.loop-node-init
-loop-node-init c = ?
+loop-node-init c h homes decls is = below_none h homes decls c.new-uses.result.items c.new-uses.ensures.items
 
--- src/table.rt:30:5
 pub loop-node-preserved : goal.loop-node-preserved
-loop-node-preserved c = ?
+loop-node-preserved c h homes decls is =
+    let k = c.loop-node.node in
+    let uses = c.loop-node.uses.items in
+    let new = c.match-entry_at.uses.items in
+    elim c.match-entry_at.branch [
+      | in-Some+in_ok-push w ↦
+          below_more h homes decls c.args.count c.args.table.now is k w.in-Some.decl uses new (c.loop-node.invariant h homes decls is) ((w.in-Some.ensures w.in-Some.decl).0 refl) (ap (λ v. v.items) w.uses-is ∙ w.in_ok-push.ensures.items)
+      | in_default w ↦
+          below_same h homes decls c.args.count c.args.table.now is k uses new (c.loop-node.invariant h homes decls is) (λ d e. absurd (cc ((w.in_default.ensures d).1 e))) (ap (λ v. v.items) w.uses-is)
+    ]
 
--- src/table.rt:26:1
 pub returns : goal.returns
-returns c = ?
+returns c h homes decls is = below_all h homes decls c.args.count c.args.table.now is c.loop-node.node c.loop-node.uses.items (omega (arith, c.loop-node-test.false, c.loop-node.auto.node-end)) (c.loop-node.invariant h homes decls is)
