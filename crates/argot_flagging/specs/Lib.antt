@@ -1,0 +1,5 @@
+pub mod Inside
+pub mod Meanings
+pub mod Known
+pub mod Files
+pub mod Others
