@@ -1,5 +1,5 @@
 -- The tables that are made of a loaded program's uses have for each node what its name stands for.
-use Rattle.std.proofs.Common.{◌≡◌, ℕ, ◌+◌, ◌<◌, ◌⊎◌, inl, inr, List, Bool, true, Option, Some, None, take, length, refl, sym, ap, ◌∙◌, subst, arith}
+use Rattle.std.proofs.Common.{◌≡◌, ℕ, ◌<◌, List, Bool, true, Option, Some, None, length, refl, sym, ap, ◌∙◌, subst}
 use Rattle.std.specs.Prelude.{slice_get, ◌↔◌, map}
 use Rattle.argot_tree.specs.declared.tree.Tree.{Tree}
 use Rattle.argot_tree.specs.declared.tree.TreeNode.{TreeNode}
@@ -14,20 +14,20 @@ use Rattle.argot_naming.specs.Imports.{IsReached, IsReachedFile}
 use Rattle.argot_naming.specs.Predeclared.{predeclared}
 use Rattle.argot_naming.specs.Scopes.{Declaration, Predeclared, Declared}
 use Rattle.argot_naming.specs.Uses.{StandsFor}
-use Rattle.argot_naming.specs.Loaded.{count_nodes, number_of, IsDeclaration, predeclared_decl, IsThat, IsUse, IsLoaded}
+use Rattle.argot_naming.specs.Loaded.{number_of, predeclared_decl, IsThat, IsLoaded}
 use Rattle.argot_naming.specs.declared.flag.Feature.{Feature}
-use Rattle.argot_naming.specs.Flags.{IsFeature, DeclaresType}
+use Rattle.argot_naming.specs.Flags.{DeclaresType}
 use Rattle.argot_naming.specs.Flags.DeclaresType.{predeclared as type_predeclared, declared as type_declared}
 use Rattle.argot_packages.specs.Surveyed.{IsProper}
 use Rattle.argot_packages.proofs.Lists.{get_below, in_behind}
 use Rattle.argot_packages.proofs.Reached.{reached_proper}
 use Rattle.argot_packages.proofs.Surveys.{owned, one_owner}
 use Rattle.argot_flags.specs.declared.standings.Standings.{Standings}
-use Rattle.argot_flags.specs.Standings.{feature_numbered, IsTypeDecl, predeclared as decl_predeclared, declared as decl_declared, Stands, IsFeatured, AreStandings}
+use Rattle.argot_flags.specs.Standings.{IsTypeDecl, predeclared as decl_predeclared, declared as decl_declared, AreStandings}
 use Rattle.argot_flags.specs.Tables.{IsTypeDeclared, AreTypes}
 use Rattle.argot_flags.proofs.Counting.{one_number}
 use Rattle.argot_flagging.specs.Meanings.{IsFeatureName, IsTypeName, AreTables}
-use Rattle.argot_flagging.proofs.NodesThere.{IsThere, declared_there, stands_there, IsMade, stands_made}
+use Rattle.argot_flagging.proofs.NodesThere.{IsThere, declared_there, stands_there, stands_made}
 use Rattle.argot_flagging.proofs.Features.{number_featured, feature_number, type_number, number_type, type_named, predeclared_at}
 
 pub some_is : {A : Type 0} (x y : A) → Some x ≡ Some y → x ≡ y

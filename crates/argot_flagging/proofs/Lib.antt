@@ -7,3 +7,7 @@ pub mod Othering
 pub mod Noting
 pub mod Pathing
 pub mod Packaging
+pub mod Foldering
+pub mod Marking
+pub mod Forming
+pub mod Whole

@@ -1,21 +1,20 @@
 -- Nodes that are named are there, and what a node stands for is declared in a file of a package that is reached.
-use Rattle.std.proofs.Common.{◌≡◌, ◌≢◌, ℕ, List, Some, refl, sym, ◌∙◌, subst}
+use Rattle.std.proofs.Common.{◌≡◌, ◌≢◌, ℕ, List, Some, sym, ◌∙◌, subst}
 use Rattle.std.specs.Prelude.{slice_get, codes}
 use Rattle.argot_tree.specs.declared.node_kind.NodeKind.{NodeKind}
 use Rattle.argot_tree.specs.declared.tree.TreeNode.{TreeNode}
 use Rattle.argot_naming.specs.Handed.{Handed, read_of, text_at}
 use Rattle.argot_naming.specs.Nodes.{Spans}
-use Rattle.argot_naming.specs.Homes.{IsFileOf}
 use Rattle.argot_naming.specs.declared.home.Home.{Home}
 use Rattle.argot_naming.specs.declared.alias.Alias.{Alias}
-use Rattle.argot_naming.specs.Imports.{IsImport, Edge, IsReached, IsReachedFile}
+use Rattle.argot_naming.specs.Imports.{IsImport, IsReached, IsReachedFile}
 use Rattle.argot_naming.specs.Imports.IsImport.{unnamed as import_unnamed, dotted as import_dotted, named as import_named}
 use Rattle.argot_naming.specs.Imports.Leads.{onward}
-use Rattle.argot_naming.specs.Locals.{Manner, Specified, Defined, Received, Switched, Brings, HasColon, of_case, of_default, IsNew, IsLocal}
+use Rattle.argot_naming.specs.Locals.{Manner, Specified, Defined, Received, Switched, Brings, HasColon, of_case, of_default, IsNew}
 use Rattle.argot_naming.specs.Locals.Brings.{value as brings_value, type_ as brings_type, define, range, receive, parameter, switched}
-use Rattle.argot_naming.specs.Tops.{Sort, IsTop, IsTopName, IsImported}
+use Rattle.argot_naming.specs.Tops.{Sort, IsTopName}
 use Rattle.argot_naming.specs.Tops.IsTopName.{value as top_value, type_ as top_type, function as top_function}
-use Rattle.argot_naming.specs.Scopes.{Declaration, Predeclared, Declared, Block, InScope}
+use Rattle.argot_naming.specs.Scopes.{Declaration, Declared, Block, InScope}
 use Rattle.argot_naming.specs.Scopes.InScope.{everywhere, top as scope_top, import_ as scope_import, local as scope_local}
 use Rattle.argot_naming.specs.Uses.{IsDotted, IsOfPackage, IsMember, IsFirstOf, StandsFor}
 use Rattle.argot_naming.specs.Uses.IsDotted.{selector as dotted_selector, type_ as dotted_type}

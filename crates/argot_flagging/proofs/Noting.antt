@@ -1,12 +1,11 @@
 -- What is added of one file of a package.
-use Rattle.std.proofs.Common.{◌≡◌, ℕ, ◌+◌, ◌<◌, inl, inr, List, Bool, true, Option, Some, None, take, length, refl, sym, ap, ◌∙◌, subst, arith}
-use Rattle.std.specs.Prelude.{slice_get, option_map, ◌↔◌}
+use Rattle.std.proofs.Common.{◌≡◌, ℕ, ◌<◌, List, Bool, true, Option, Some, None, take, length, sym, ap, ◌∙◌, subst, arith}
+use Rattle.std.specs.Prelude.{slice_get, option_map}
 use Rattle.argot_tree.specs.declared.tree.Tree.{Tree}
-use Rattle.argot_tree.specs.declared.tree.TreeNode.{TreeNode}
 use Rattle.argot_naming.specs.Lists.{In}
 use Rattle.argot_naming.specs.Handed.{Handed, nodes_in, bytes_of, read_of, directives_of}
-use Rattle.argot_naming.specs.Homes.{HasPath, IsFileOf, in_folder, in_library}
-use Rattle.argot_naming.specs.Loaded.{count_nodes, number_of}
+use Rattle.argot_naming.specs.Homes.{IsFileOf, in_folder, in_library}
+use Rattle.argot_naming.specs.Loaded.{count_nodes}
 use Rattle.argot_naming.specs.declared.home.Home.{Home}
 use Rattle.argot_naming.specs.declared.flag.Feature.{Feature}
 use Rattle.argot_packages.proofs.Lists.{get_below, get_there}
@@ -14,15 +13,13 @@ use Rattle.argot_flags.specs.declared.spots.Spot.{Spot}
 use Rattle.argot_flags.specs.declared.view.View.{View}
 use Rattle.argot_flags.specs.Spots.{Adds}
 use Rattle.argot_flags.specs.Files.{read_in, IsInFile}
-use Rattle.argot_flags.specs.Tables.{AreBases}
-use Rattle.argot_flags.proofs.Adding.{adds_as, adds_none}
+use Rattle.argot_flags.proofs.Adding.{adds_as}
 use Rattle.argot_flagging.specs.declared.known.Known.{Known}
 use Rattle.argot_flagging.specs.Inside.{IsInside}
-use Rattle.argot_flagging.specs.Meanings.{IsFeatureName, IsTypeName, AreMeant, AreTables, IsPathOf}
+use Rattle.argot_flagging.specs.Meanings.{AreMeant, AreTables, IsPathOf}
 use Rattle.argot_flagging.specs.Known.{handed_of, IsKnown}
 use Rattle.argot_flagging.specs.Files.{IsPart}
 use Rattle.argot_flagging.proofs.NodesThere.{IsThere, stands_there}
-use Rattle.argot_flagging.proofs.Bridging.{tree_of, some_is}
 use Rattle.argot_flagging.proofs.Views.{inside, in_file}
 
 -- the view is of the file with this tree

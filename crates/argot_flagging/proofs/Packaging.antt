@@ -1,10 +1,9 @@
 -- What is added of packages, file by file and package by package.
-use Rattle.std.proofs.Common.{◌≡◌, ℕ, ◌+◌, ◌<◌, ◌≤◌, List, Option, Some, length, refl, sym, ap, ◌∙◌, subst, arith}
+use Rattle.std.proofs.Common.{◌≡◌, ℕ, ◌≤◌, List, Some, length, sym, ◌∙◌, subst, arith}
 use Rattle.std.specs.Prelude.{slice_get}
 use Rattle.argot_tree.specs.declared.entries.Entry.{Entry}
 use Rattle.argot_typed.specs.declared.program.Package.{Package}
 use Rattle.argot_naming.specs.Handed.{Handed, Place}
-use Rattle.argot_naming.specs.Homes.{IsFileOf}
 use Rattle.argot_naming.specs.Loaded.{IsPackage}
 use Rattle.argot_naming.specs.declared.home.Home.{Home}
 use Rattle.argot_naming.specs.declared.flag.Feature.{Feature}

@@ -1,5 +1,5 @@
 -- The import path of a package's files.
-use Rattle.std.proofs.Common.{◌≡◌, ◌≢◌, ℕ, List, [], ◌∷◌, ◌++◌, Bool, true, false, Option, Some, None, refl, sym, ap, ◌∙◌, subst}
+use Rattle.std.proofs.Common.{◌≡◌, ◌≢◌, ℕ, List, [], ◌∷◌, ◌++◌, false, Option, Some, None, refl, sym, ap, ◌∙◌, subst}
 use Rattle.std.specs.Prelude.{codes, slice_get, if◌then◌else◌}
 use Rattle.argot_stubs.specs.Stubs.{HasStub, errors, fmt, os, exec, strings, log, strconv, sync}
 use Rattle.argot_typed.specs.declared.program.Package.{Package}
@@ -9,12 +9,12 @@ use Rattle.argot_naming.specs.Agreeing.{is_go_file}
 use Rattle.argot_naming.specs.Loaded.{IsPackage}
 use Rattle.argot_naming.specs.declared.home.Home.{Home}
 use Rattle.argot_naming.specs.declared.home.Home.TheVariants as homes
-use Rattle.argot_packages.specs.Surveyed.{IsProper, folder, library}
+use Rattle.argot_packages.specs.Surveyed.{IsProper, library}
 use Rattle.argot_flagging.specs.Meanings.{IsPathOf}
 use Rattle.argot_flagging.proofs.Bridging.{some_is}
 
 -- a library text has no name of a Go file
-not_go : (path text : List ℕ) → HasStub path text → is_go_file (codes "stub:" ++ path) ≡ false
+pub not_go : (path text : List ℕ) → HasStub path text → is_go_file (codes "stub:" ++ path) ≡ false
 not_go path text (errors e _) = subst (λ p. is_go_file (codes "stub:" ++ p) ≡ false) (sym e) refl
 not_go path text (fmt e _) = subst (λ p. is_go_file (codes "stub:" ++ p) ≡ false) (sym e) refl
 not_go path text (os e _) = subst (λ p. is_go_file (codes "stub:" ++ p) ≡ false) (sym e) refl

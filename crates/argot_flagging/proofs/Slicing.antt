@@ -1,6 +1,6 @@
 -- Parts of lists.
 use Rattle.std.proofs.Common.{◌≡◌, ℕ, zero, suc, ◌+◌, ◌<◌, List, [], ◌∷◌, Some, take, drop, refl, sym, ◌∙◌, subst, arith}
-use Rattle.std.specs.Prelude.{slice_get, ◌↔◌}
+use Rattle.std.specs.Prelude.{slice_get}
 use Rattle.argot_tree.specs.declared.tree.Tree.{Tree}
 use Rattle.argot_naming.specs.Loaded.{count_nodes}
 use Rattle.argot_packages.proofs.Lists.{get_below, get_there}

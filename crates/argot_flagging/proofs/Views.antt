@@ -1,35 +1,31 @@
 -- What is left out in a file, by a view of it, is what the definition says.
-use Rattle.std.proofs.Common.{◌≡◌, ℕ, List, Bool, true, Option, Some, refl, sym, ap, ◌∙◌, subst}
+use Rattle.std.proofs.Common.{◌≡◌, ℕ, List, refl, sym, ap, ◌∙◌, subst}
 use Rattle.std.specs.Prelude.{slice_get, option_map}
 use Rattle.argot_tree.specs.declared.node_kind.NodeKind.TheVariants as nodes
-use Rattle.argot_tree.specs.declared.token.Token.{Token}
 use Rattle.argot_tree.specs.declared.tree.TreeNode.{TreeNode}
 use Rattle.argot_tree.specs.declared.entries.Entry.{Entry}
 use Rattle.argot_naming.specs.Lists.{In}
 use Rattle.argot_naming.specs.Handed.{Handed, Read, Place, Begins, read_of, bytes_of, directives_of, text_at}
 use Rattle.argot_naming.specs.Nodes.{Spans, Is, IsOf, IsFirstChild, IsChild}
-use Rattle.argot_naming.specs.Homes.{ImportPath}
 use Rattle.argot_naming.specs.Imports.{Imports, IsImport}
 use Rattle.argot_naming.specs.declared.home.Home.{Home}
-use Rattle.argot_naming.specs.declared.home.Home.TheVariants.{Folder}
 use Rattle.argot_naming.specs.declared.alias.Alias.TheVariants.{Dotted}
 use Rattle.argot_naming.specs.declared.flag.Feature.{Feature}
 use Rattle.argot_naming.specs.declared.flag.Feature.TheVariants as features
 use Rattle.argot_naming.specs.Uses.{IsKey}
 use Rattle.argot_naming.specs.Flags.{is_name, is_type_form, wraps_type, HasEntry, DenotesType, Directs, directive_at, LeavesLiteral}
 use Rattle.argot_naming.specs.Flags.DenotesType.{name as denotes_name, member as denotes_member, wrapped as denotes_wrapped, form as denotes_form}
-use Rattle.argot_flags.specs.declared.parts.Part.{Part}
 use Rattle.argot_flags.specs.declared.view.View.{View}
 use Rattle.argot_flags.specs.Atoms.{IsAtom, IsBeforeDot}
 use Rattle.argot_flags.specs.Atoms.IsAtom.{name as atom_name, member as atom_member, form as atom_form}
 use Rattle.argot_flags.specs.Atoms.IsBeforeDot.{direct, wrapped as before_wrapped}
-use Rattle.argot_flags.specs.Parts.{BeginsIn, IsDot, IsPlain, IsNumber, IsNamed, IsMethod, IsBodiless}
+use Rattle.argot_flags.specs.Parts.{BeginsIn, IsBodiless}
 use Rattle.argot_flags.specs.Parts.IsPlain.{type_parameters as plain_parameters, goto_ as plain_goto}
-use Rattle.argot_flags.specs.Files.{read_in, IsBodilessIn, IsPart, IsAt, IsAtSome, IsImportSome, IsDirectedSome, IsInFile}
+use Rattle.argot_flags.specs.Files.{read_in, IsPart, IsInFile}
 use Rattle.argot_flags.specs.Files.IsPart.{dot as part_dot, plain, number, named, method, bodiless}
 use Rattle.argot_flags.specs.Files.IsInFile.{import_ as in_import, directive as in_directive, node as in_node}
 use Rattle.argot_flagging.specs.Inside.{IsInside, import_, dot, directive, type_parameters, literal, predeclared, goto_, method_expression, without_body}
-use Rattle.argot_flagging.specs.Meanings.{IsFeatureName, IsTypeName, AreMeant, IsPathOf}
+use Rattle.argot_flagging.specs.Meanings.{AreMeant, IsPathOf}
 
 module _ (h : Handed) (entries : List Entry) (home : Home) (file : ℕ) (view : View) (directives : List ℕ)
     (file_is : view.file ≡ file) (read_is : read_in view ≡ read_of h file) (directives_are : directives ≡ directives_of h file) (entries_are : view.entries.now ≡ entries)

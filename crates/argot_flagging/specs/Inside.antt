@@ -12,7 +12,7 @@ use Rattle.argot_naming.specs.declared.home.Home.TheVariants.{Folder}
 use Rattle.argot_naming.specs.Imports.{IsImport, Imports}
 use Rattle.argot_naming.specs.declared.alias.Alias.{Alias}
 use Rattle.argot_naming.specs.declared.alias.Alias.TheVariants.{Dotted}
-use Rattle.argot_naming.specs.Scopes.{Declaration, Predeclared}
+use Rattle.argot_naming.specs.Scopes.{Predeclared}
 use Rattle.argot_naming.specs.Uses.{IsKey, StandsFor}
 use Rattle.argot_naming.specs.declared.flag.Feature.{Feature}
 use Rattle.argot_naming.specs.declared.flag.Feature.TheVariants as features

@@ -3,3 +3,5 @@ pub mod Meanings
 pub mod Known
 pub mod Files
 pub mod Others
+pub mod Folders
+pub mod Positions

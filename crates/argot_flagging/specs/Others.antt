@@ -1,5 +1,5 @@
 -- What is left out of files as a whole: assembly files in the folders of packages, and the `go` line of the module.
-use Rattle.std.specs.Prelude.{◌≡◌, ℕ, ◌<◌, true, List, codes, Some, slice_get}
+use Rattle.std.specs.Prelude.{◌≡◌, ℕ, true, List, codes, Some, slice_get}
 use Rattle.argot_text.specs.declared.sources.Sources.{Sources}
 use Rattle.argot_naming.specs.Handed.{Place}
 use Rattle.argot_naming.specs.Homes.{folder_of}

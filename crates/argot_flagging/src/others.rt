@@ -56,7 +56,7 @@ fn is_later(go_line: Option<(u32, u32)>) -> bool
 }
 
 /// Whether the folder is in the table.
-fn has_folder(folders: &IndexMap<&[u8], u32>, folder: &str) -> bool
+fn has_folder(folders: &IndexMap<&[u8], usize>, folder: &str) -> bool
     ensures yes { result ≡ true → HasFolder folders.now folder.now }
     ensures no { result ≡ false → HasFolder folders.now folder.now → ⊥ }
 {
@@ -66,7 +66,7 @@ fn has_folder(folders: &IndexMap<&[u8], u32>, folder: &str) -> bool
 /// Adds an assembly file whose folder is in the table.
 fn note_assembly(
     spots: &mut BTreeSet<Spot>,
-    folders: &IndexMap<&[u8], u32>,
+    folders: &IndexMap<&[u8], usize>,
     file: u32,
     path: &str,
 ) -> Result<(), Memory>
@@ -118,7 +118,7 @@ fn note_go_line(
 fn note_other(
     spots: &mut BTreeSet<Spot>,
     sources: &Sources,
-    folders: &IndexMap<&[u8], u32>,
+    folders: &IndexMap<&[u8], usize>,
     file: u32,
     path: &str,
 ) -> Result<(), Memory>
@@ -133,7 +133,7 @@ fn note_other(
 pub fn note_others(
     spots: &mut BTreeSet<Spot>,
     sources: &Sources,
-    folders: &IndexMap<&[u8], u32>,
+    folders: &IndexMap<&[u8], usize>,
 ) -> Result<(), Memory>
     requires { (file : ℕ) → length (bytes_at sources.now file) < 2 ^ 63 }
     ensures { OnOk result (Adds (IsOther sources.now folders.now) spots.old.keys spots.new.keys) }

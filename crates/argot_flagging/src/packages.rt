@@ -20,7 +20,7 @@ use std::alloc::Global;
 use std::collections::BTreeSet;
 
 /// Whether the path ends in `.go`.
-fn ends_in_go(path: &str) -> bool
+pub fn ends_in_go(path: &str) -> bool
     ensures { result ≡ is_go_file path.now }
 {
     path.ends_with(".go")
@@ -75,7 +75,7 @@ fn note_package<'a>(
 }
 
 /// Package k.
-fn package_at(packages: &[Package], k: usize) -> &Package
+pub fn package_at(packages: &[Package], k: usize) -> &Package
     requires { k < length packages.now }
     ensures { slice_get packages.now k ≡ Some result.now }
 {

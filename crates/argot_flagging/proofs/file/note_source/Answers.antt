@@ -1,4 +1,4 @@
-use Rattle.std.proofs.Common.{refl, sym, ◌∙◌, ap}
+use Rattle.std.proofs.Common.{refl, sym}
 use Rattle.argot_flags.proofs.Adding.{adds_none}
 use Rattle.argot_flagging.specs.Inside.{IsInside}
 use Rattle.argot_flagging.specs.Known.{handed_of}

@@ -1,4 +1,4 @@
-use Rattle.std.proofs.Common.{◌⊎◌, inl, inr, refl, arith}
+use Rattle.std.proofs.Common.{inl, inr, arith}
 use Rattle.std.proofs.lemmas.Bool.Decides.{nat_tests}
 use Rattle.argot_flagging.proofs.Othering.{later_major, later_minor, is_later}
 use Rattle.argot_flagging.proofs.others.is_from.Goals as goal

@@ -1,4 +1,4 @@
-use Rattle.std.proofs.Common.{refl, sym, ◌∙◌, subst, ap, Some, arith}
+use Rattle.std.proofs.Common.{sym, ◌∙◌, ap, Some, arith}
 use Rattle.argot_flags.proofs.Adding.{adds_step}
 use Rattle.argot_flagging.proofs.Othering.{IsOtherNumbered, other_numbered, others_all}
 use Rattle.argot_flagging.proofs.others.note_others.Goals as goal

@@ -1,4 +1,4 @@
-use Rattle.std.proofs.Common.{◌≡◌, Some, length, subst, arith, ap, ◌∙◌, sym, refl}
+use Rattle.std.proofs.Common.{◌≡◌, Some, length, arith, ap, ◌∙◌, sym, refl}
 use Rattle.std.specs.Prelude.{slice_get}
 use Rattle.argot_flags.proofs.Adding.{adds_start, adds_step}
 use Rattle.argot_flagging.specs.Known.{handed_of}
