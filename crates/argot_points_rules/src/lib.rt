@@ -14,6 +14,7 @@ mod nodes;
 mod parts;
 mod paths;
 mod rules;
+mod stretches;
 mod values;
 
 pub use column::{reference, rules_of};
