@@ -1,8 +1,14 @@
 -- The rules of a place by those definitions alone that reach it.
-use Rattle.std.proofs.Common.{add-zero, add-suc, ◌≡◌, ℕ, zero, suc, ◌+◌, ◌-◌, ◌<◌, ◌≤◌, List, [], ◌∷◌, ◌++◌, Some, None, arith, sym, ap, refl, length, take, drop, get_or, eqb-true, ◌∙◌}
+use Rattle.std.proofs.Common.{true, false, ⊎_elim, add-zero, add-suc, ◌≡◌, ℕ, zero, suc, ◌+◌, ◌-◌, ◌<◌, ◌≤◌, List, [], ◌∷◌, ◌++◌, Some, None, arith, sym, ap, refl, length, take, drop, eqb-true, ◌∙◌}
 use Rattle.std.specs.Prelude.{Option, slice_get, ◌==◌, ◌&&◌, if◌then◌else◌}
-use Rattle.std.proofs.lemmas.Option.{slice_get-get_or}
-use Rattle.std.proofs.lemmas.Bool.{false_from_ne_true}
+use Rattle.std.specs.List.{AllAdjacentBelow}
+use Rattle.std.specs.List.Sorted.{IsNonDecreasingBy, IsPartitionPoint}
+use Rattle.std.specs.Ordering.{is_some_and, is_le, nat_cmp}
+use Rattle.std.proofs.lemmas.Option.{slice_get_within, get_or_from_slice_get}
+use Rattle.std.proofs.lemmas.Bool.{false_from_ne_true, ltb-true, leb-false, cases_lt}
+use Rattle.std.proofs.lemmas.List.Sorted.{IsNonDecreasingBy-from_all_adjacent}
+use Rattle.std.proofs.lemmas.Map.Keys.{le_from_is_le}
+use Rattle.std.proofs.Math.Dec.{leb, ltb}
 use Rattle.argot_plain.specs.Code.{Code, handed_values}
 use Rattle.argot_plain.specs.declared.functions.Function.{Function}
 use Rattle.argot_plain.specs.declared.instructions.Kind.{Kind}
@@ -10,8 +16,8 @@ use Rattle.argot_plain.specs.declared.instructions.Kind.TheVariants as kinds
 use Rattle.argot_facts.specs.Numbers.{node, leaves_of, own_site, shape_at}
 use Rattle.argot_facts.specs.declared.nodes.Node.{Node}
 use Rattle.argot_text.specs.declared.path.PathStep.{PathStep}
-use Rattle.argot_points_rules.specs.Column.{definitions, definitions_at, register_copies, item_copies, join_copies, part_copies, value_copies, value_loads, value_stores, move_copies, shifts, keeps, copies, grow_rules, hand_rules, kind_rules, reference}
-use Rattle.argot_points_rules.specs.Stretches.{AreInOrder, AreEnough}
+use Rattle.argot_points_rules.specs.Column.{definitions, definitions_at, register_copies, item_copies, join_copies, part_copies, value_copies, value_loads, move_copies, shifts, keeps, grow_rules, hand_rules, kind_rules, reference}
+use Rattle.argot_points_rules.specs.Stretches.{reached, AreEnough}
 
 -- one of another place adds nothing
 miss : (p : Code) (fn : Function) (i r : ℕ) (x : ℕ × ℕ × ℕ) (ds : List (ℕ × ℕ × ℕ)) → (x.1 ≡ i → ⊥) → definitions p fn i r (x ∷ ds) ≡ definitions p fn i r ds
@@ -86,22 +92,24 @@ get_drop ds zero n d e = rw add-zero e
 get_drop [] (suc a) n d e = absurd cc
 get_drop (x ∷ ds) (suc a) n d e = rw add-suc (get_drop ds a n d e)
 
+-- where the definitions of the place begin, those of places behind don't
+pub begin_before_end : (ds : List (ℕ × ℕ × ℕ)) (i a b : ℕ) → IsPartitionPoint (λ d. ltb (reached d) i ≡ true) (λ d. ltb (reached d) i ≡ false) ds a → IsPartitionPoint (λ d. leb (reached d) i ≡ true) (λ d. leb (reached d) i ≡ false) ds b
+    → a ≤ length ds → a ≤ b
+begin_before_end ds i a b begin stop inside = ⊎_elim (λ (l : b < a). absurd (omega (arith, ltb-true _ _ (begin.0 b (0, 0, 0) (omega arith) l), leb-false _ _ (stop.1 b (0, 0, 0) (omega arith) (omega (arith, l, inside)))))) (λ (l : a ≤ b). l) (cases_lt b a)
+
 -- the definitions between those of places before and those of places behind are enough
-pub between : (ds : List (ℕ × ℕ × ℕ)) (i a b : ℕ) → a ≤ b
-    → ((n : ℕ) (d : ℕ × ℕ × ℕ) → slice_get ds n ≡ Some d → n < a → d.1 < i)
-    → ((n : ℕ) (d : ℕ × ℕ × ℕ) → slice_get ds n ≡ Some d → b ≤ n → i < d.1)
+pub between : (ds : List (ℕ × ℕ × ℕ)) (i a b : ℕ) → IsPartitionPoint (λ d. ltb (reached d) i ≡ true) (λ d. ltb (reached d) i ≡ false) ds a → IsPartitionPoint (λ d. leb (reached d) i ≡ true) (λ d. leb (reached d) i ≡ false) ds b
     → AreEnough ds (take (b - a) (drop a ds)) i
-between ds i a b l before behind p fn r =
-    back p fn i r (b - a) (drop a ds) (λ n d e m t. absurd (omega (arith, behind (n + a) d (get_drop ds a n d e) (omega arith), t)))
+between ds i a b begin stop p fn r =
+    back p fn i r (b - a) (drop a ds) (λ n d e m t. absurd (omega (arith, behind (n + a) d (get_drop ds a n d e) (omega (arith, m)), t)))
     ∙ front p fn i r a ds (λ n d e m t. absurd (omega (arith, before n d e m, t)))
+  where
+    before : (n : ℕ) (d : ℕ × ℕ × ℕ) → slice_get ds n ≡ Some d → n < a → d.1 < i
+    before n d e l = let k = ltb-true _ _ (begin.0 n d (omega arith) l) in omega (arith, k, ap (λ x. x.1) (get_or_from_slice_get ds n d d e))
 
--- all up to one of a place before are of places before, and all from one behind are of places behind
-pub up_to : (ds : List (ℕ × ℕ × ℕ)) (i m : ℕ) → AreInOrder ds → m < length ds → (get_or ds m (0, 0, 0)).1 < i → (n : ℕ) (d : ℕ × ℕ × ℕ) → slice_get ds n ≡ Some d → n < m + 1 → d.1 < i
-up_to ds i m order l h n d e k =
-    let o : d.1 ≤ (get_or ds m (0, 0, 0)).1 = order n m d _ (omega (arith, k)) e (slice_get-get_or ds m (0, 0, 0) l) in
-    omega (arith, o, h)
+    behind : (n : ℕ) (d : ℕ × ℕ × ℕ) → slice_get ds n ≡ Some d → b ≤ n → i < d.1
+    behind n d e l = let k = leb-false _ _ (stop.1 n d l (slice_get_within ds n d e)) in omega (arith, k, ap (λ x. x.1) (get_or_from_slice_get ds n d d e))
 
-pub from : (ds : List (ℕ × ℕ × ℕ)) (i m : ℕ) → AreInOrder ds → m < length ds → i ≤ (get_or ds m (0, 0, 0)).1 → (n : ℕ) (d : ℕ × ℕ × ℕ) → slice_get ds n ≡ Some d → m ≤ n → i ≤ d.1
-from ds i m order l h n d e k =
-    let o : (get_or ds m (0, 0, 0)).1 ≤ d.1 = order m n _ d k (slice_get-get_or ds m (0, 0, 0) l) e in
-    omega (arith, o, h)
+-- each no later than the next
+pub order_from_tests : (ds : List (ℕ × ℕ × ℕ)) → AllAdjacentBelow (λ x y. true ≡ is_some_and is_le (Some (nat_cmp (reached x) (reached y)))) ds (length ds) → IsNonDecreasingBy reached ds
+order_from_tests ds h = IsNonDecreasingBy-from_all_adjacent reached ds (λ k d l. le_from_is_le _ _ (sym (h k d l)))

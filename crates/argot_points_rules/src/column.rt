@@ -4,7 +4,8 @@ ghost use Rattle.argot_plain.specs.Code.{handed_values};
 ghost use Rattle.argot_plain.specs.WellFormed.{WellFormed};
 ghost use Rattle.argot_facts.specs.Numbers.{node, leaves_of, own_site, shape_at};
 ghost use Rattle.argot_points_rules.specs.declared.rules.Rule.TheVariants.{Fresh};
-ghost use Rattle.argot_points_rules.specs.Stretches.{AreInOrder};
+ghost use Rattle.std.specs.List.Sorted.{IsNonDecreasingBy};
+ghost use Rattle.argot_points_rules.specs.Stretches.{reached};
 ghost use Rattle.argot_points_rules.specs.Column.{owned, join_copies, register_copies, item_copies, grow_rules, enter_leaves, enters, return_leaves, returns, fresh_of, fresh_from, reference, hand_rules, variable_rules, kind_rules, place_rules, function_rules, rules_of, definitions};
 
 use crate::definitions::definitions;
@@ -12,6 +13,7 @@ use crate::nodes::{handed_values, leaves_of, own_site, small};
 use crate::parts::{push_move, push_part};
 use crate::paths::copied;
 use crate::rules::{Owned, Rule};
+use crate::sites::{end_of_sites, first_site};
 use crate::stretches::{are_in_order, stretch_of};
 use crate::values::{
     push_copies, push_keeps, push_loads, push_shifts, push_value_copies, push_value_loads,
@@ -302,8 +304,9 @@ fn push_fresh_at(
 fn push_fresh(rules: &mut Vec<Owned>, at: &At, by: Node) -> Result<(), Memory>
     ensures { OnOk result (rules.new.items ≡ rules.old.items ++ fresh_of at.now.program.now at.now.owner at.now.place by) }
 {
-    let count = at.program.site_count();
-    for s in at.program.globals().len()..count {
+    let first = first_site(at.program, at.place);
+    let end = end_of_sites(at.program, first, at.place);
+    for s in first..end {
         push_fresh_at(rules, at, by, s, at.program.site(s))?;
     }
     Ok(())
@@ -514,7 +517,7 @@ fn push_function(
     in_order: bool,
     owner: u32,
 ) -> Result<(), Memory>
-    requires order { in_order ≡ true → AreInOrder defs.now }
+    requires order { in_order ≡ true → IsNonDecreasingBy reached defs.now }
     requires inside { (function.now.entry ≤ function.now.leave) × (function.now.leave < length program.now.instrs) }
     requires well { WellFormed program.now }
     ensures { OnOk result (rules.new.items ≡ rules.old.items ++ place_rules program.now function.now defs.now owner function.now.entry (function.now.leave + 1 - function.now.entry)) }

@@ -14,6 +14,7 @@ mod nodes;
 mod parts;
 mod paths;
 mod rules;
+mod sites;
 mod stretches;
 mod values;
 
