@@ -35,7 +35,9 @@ fn push_function(alloc: Global, text: &mut String, nodes: u32) -> Result<(), Mem
     let (exit, leave) = (joins + 2, joins + 3);
     let full = leaves(alloc, MOST_LEAVES)?;
     let rest = leaves(alloc, nodes % MOST_LEAVES)?;
-    let head = format!(in alloc; "function entry 0 {exit} {leave} 0 0 own - - - - {full} {rest}\n")?;
+    let head = format!(in alloc;
+        "function entry 0 {exit} {leave} 0 0 own - - - - {full} {rest}\n"
+    )?;
     text.push_str(head.as_str())?;
     text.push_str("  goto 1\n")?;
     for _ in 0..joins {

@@ -55,11 +55,17 @@ fn main(rt: HostRuntime) -> io::Result<()> {
     let asked = asked(&rt)?;
     if asked.files.is_empty() {
         let text = fs::read_to_string(&rt, "program.txt")?;
-        print(rt.stdout(), of_program(rt.alloc(), text.as_str(), asked.stage))?;
+        print(
+            rt.stdout(),
+            of_program(rt.alloc(), text.as_str(), asked.stage),
+        )?;
     }
     for file in &asked.files {
         let text = fs::read_to_string(&rt, file.as_str())?;
-        print(rt.stdout(), of_file(rt.alloc(), file.as_str(), text.as_str(), asked.stage))?;
+        print(
+            rt.stdout(),
+            of_file(rt.alloc(), file.as_str(), text.as_str(), asked.stage),
+        )?;
     }
     if asked.limits {
         print(rt.stdout(), of_limits(rt.alloc()))?;
