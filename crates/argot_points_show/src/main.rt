@@ -15,7 +15,7 @@ mod words;
 
 use crate::answer::{Stage, push_answer};
 use crate::limits::push_limits;
-use crate::words::asked;
+use crate::words::read_words;
 use argot_text::{Memory, Out};
 use std::alloc::Global;
 use std::io::Write;
@@ -52,7 +52,7 @@ fn print<W: Write + Drop>(mut to: W, found: Result<Out, Memory>) -> io::Result<(
 }
 
 fn main(rt: HostRuntime) -> io::Result<()> {
-    let asked = asked(&rt)?;
+    let asked = read_words(&rt)?;
     if asked.files.is_empty() {
         let text = fs::read_to_string(&rt, "program.txt")?;
         print(

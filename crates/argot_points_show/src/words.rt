@@ -15,7 +15,7 @@ pub struct Asked {
 }
 
 /// What the words ask for.
-pub fn asked<R: Env + AllocGlobal>(rt: &R) -> io::Result<Asked> {
+pub fn read_words<R: Env + AllocGlobal>(rt: &R) -> io::Result<Asked> {
     let mut asked = Asked {
         stage: Stage::Points,
         limits: false,
