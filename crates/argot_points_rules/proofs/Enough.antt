@@ -1,11 +1,14 @@
 -- The rules of a place by those definitions alone that reach it.
-use Rattle.std.proofs.Common.{true, false, ⊎_elim, add-zero, add-suc, ◌≡◌, ℕ, zero, suc, ◌+◌, ◌-◌, ◌<◌, ◌≤◌, List, [], ◌∷◌, ◌++◌, Some, None, arith, sym, ap, refl, length, take, drop, eqb-true, ◌∙◌}
+use Rattle.std.proofs.Common.{Bool, get_or, true, false, ⊎_elim, add-zero, add-suc, ◌≡◌, ℕ, zero, suc, ◌+◌, ◌-◌, ◌<◌, ◌≤◌, List, [], ◌∷◌, ◌++◌, Some, None, arith, sym, ap, refl, length, take, drop, eqb-true, ◌∙◌}
 use Rattle.std.specs.Prelude.{Option, slice_get, ◌==◌, ◌&&◌, if◌then◌else◌}
-use Rattle.std.specs.List.{AllAdjacentBelow}
+use Rattle.std.specs.List.{All, AllAdjacentBelow, IsAllAdjacentAnswer}
+use Rattle.std.specs.Cmp.{nat_cmp_is}
+use Rattle.std.specs.declared.cmp.Ordering.TheVariants.{Less, Equal}
+use Rattle.std.proofs.lemmas.List.{get_or-take, get_or-drop, length-take}
 use Rattle.std.specs.List.Sorted.{IsNonDecreasingBy, IsPartitionPoint}
 use Rattle.std.specs.Ordering.{is_some_and, is_le, nat_cmp}
 use Rattle.std.proofs.lemmas.Option.{slice_get_within, get_or_from_slice_get}
-use Rattle.std.proofs.lemmas.Bool.{false_from_ne_true, ltb-true, leb-false, cases_lt}
+use Rattle.std.proofs.lemmas.Bool.{false_from_ne_true, ltb-true, ltb-false, leb-true, leb-false, cases_lt}
 use Rattle.std.proofs.lemmas.List.Sorted.{IsNonDecreasingBy-from_all_adjacent}
 use Rattle.std.proofs.lemmas.Map.Keys.{le_from_is_le}
 use Rattle.std.proofs.Math.Dec.{leb, ltb}
@@ -113,3 +116,20 @@ between ds i a b begin stop p fn r =
 -- each no later than the next
 pub order_from_tests : (ds : List (ℕ × ℕ × ℕ)) → AllAdjacentBelow (λ x y. true ≡ is_some_and is_le (Some (nat_cmp (reached x) (reached y)))) ds (length ds) → IsNonDecreasingBy reached ds
 order_from_tests ds h = IsNonDecreasingBy-from_all_adjacent reached ds (λ k d l. le_from_is_le _ _ (sym (h k d l)))
+
+is_le_from : (a b : ℕ) → a ≤ b → is_le (nat_cmp a b) ≡ true
+is_le_from a b l = ⊎_elim (λ (less : a < b). ap is_le (sym (nat_cmp_is a b Less less))) (λ (no : b ≤ a). ap is_le (sym (nat_cmp_is a b Equal (omega (arith, l, no))))) (cases_lt a b)
+
+pub tests_from_order : (ds : List (ℕ × ℕ × ℕ)) (r : Bool) → IsAllAdjacentAnswer (λ x y b. b ≡ is_some_and is_le (Some (nat_cmp (reached x) (reached y)))) ds r → IsNonDecreasingBy reached ds → r ≡ true
+tests_from_order ds true h up = refl
+tests_from_order ds false h up = h.2 (0, 0, 0) ∙ is_le_from _ _ (up h.0 (h.0 + 1) (0, 0, 0) (omega arith) h.1)
+
+-- those between are all of the place
+pub all_here : (ds : List (ℕ × ℕ × ℕ)) (i a b : ℕ) → IsPartitionPoint (λ d. ltb (reached d) i ≡ true) (λ d. ltb (reached d) i ≡ false) ds a → IsPartitionPoint (λ d. leb (reached d) i ≡ true) (λ d. leb (reached d) i ≡ false) ds b
+    → b ≤ length ds → All (λ d. reached d ≡ i) (take (b - a) (drop a ds))
+all_here ds i a b begin stop inside k d l =
+    let m : k < b - a = omega (arith, l, length-take (b - a) (drop a ds)) in
+    let here : get_or (take (b - a) (drop a ds)) k d ≡ get_or ds (a + k) d = get_or-take (b - a) (drop a ds) k d m ∙ get_or-drop a ds k d in
+    let low = ltb-false _ _ (begin.1 (a + k) d (omega arith) (omega (arith, m, inside))) in
+    let high = leb-true _ _ (stop.0 (a + k) d (omega arith) (omega (arith, m))) in
+    omega (arith, low, high, ap reached here)
