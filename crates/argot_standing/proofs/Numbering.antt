@@ -23,19 +23,15 @@ abbrev are_apart : List (List ℕ) → Bool
 are_apart [] = true
 are_apart (name ∷ names) = not (is_among name names) && are_apart names
 
+never : (b c : Bool) → (not b && c) ≡ true → b ≡ true → ⊥
+never true c e f = absurd (cc)
+never false c e f = absurd (cc)
+
 apart_one : (names : List (List ℕ)) → are_apart names ≡ true → (j k : ℕ) (name : List ℕ) → slice_get names j ≡ Some name → slice_get names k ≡ Some name → j ≡ k
 apart_one [] a j k name e f = absurd (cc)
 apart_one (n ∷ names) a zero zero name e f = refl
 apart_one (n ∷ names) a zero (suc k) name e f = absurd (never (is_among n names) (are_apart names) a (subst (λ x. is_among x names ≡ true) (sym (some_is n name (cc (e)))) (among_at name names k f)))
-  where
-    never : (b c : Bool) → (not b && c) ≡ true → b ≡ true → ⊥
-    never true c e f = absurd (cc)
-    never false c e f = absurd (cc)
 apart_one (n ∷ names) a (suc j) zero name e f = absurd (never (is_among n names) (are_apart names) a (subst (λ x. is_among x names ≡ true) (sym (some_is n name (cc (f)))) (among_at name names j e)))
-  where
-    never : (b c : Bool) → (not b && c) ≡ true → b ≡ true → ⊥
-    never true c e f = absurd (cc)
-    never false c e f = absurd (cc)
 apart_one (n ∷ names) a (suc j) (suc k) name e f = ap (λ x. suc x) (apart_one names (rest (is_among n names) (are_apart names) a) j k name e f)
   where
     rest : (b c : Bool) → (not b && c) ≡ true → c ≡ true
