@@ -1,4 +1,5 @@
 pub mod Matching
 pub mod Asking
 pub mod Looking
+pub mod Packages
 pub mod Marking

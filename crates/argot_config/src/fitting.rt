@@ -4,6 +4,7 @@ ghost use Rattle.argot_plain.specs.Fitting.{Fits};
 ghost use Rattle.argot_config.specs.Asking.{IsProblem};
 
 use crate::functions::functions;
+use crate::packages::Packages;
 use crate::places::places;
 use argot_config_read::{Asked, Config};
 use argot_plain::{Problem, Program};
@@ -25,14 +26,15 @@ pub fn problem(alloc: Global, config: &Config, k: u32, program: &Program) -> Res
 fn asked_of(alloc: Global, asked: &Asked, number: u32, program: &Program) -> Result<Problem, Memory>
     ensures { IfOk result (IsProblem program.now asked.now number) }
 {
+    let packages = Packages::new(alloc, program)?;
     Ok(Problem {
         number,
         name: Text::from_str(alloc, asked.name.as_str())?,
-        sources: functions(alloc, asked.sources.as_slice(), program)?,
-        sinks: functions(alloc, asked.sinks.as_slice(), program)?,
-        sanitizers: functions(alloc, asked.sanitizers.as_slice(), program)?,
-        validators: functions(alloc, asked.validators.as_slice(), program)?,
-        points: functions(alloc, asked.points.as_slice(), program)?,
+        sources: functions(alloc, asked.sources.as_slice(), program, &packages)?,
+        sinks: functions(alloc, asked.sinks.as_slice(), program, &packages)?,
+        sanitizers: functions(alloc, asked.sanitizers.as_slice(), program, &packages)?,
+        validators: functions(alloc, asked.validators.as_slice(), program, &packages)?,
+        points: functions(alloc, asked.points.as_slice(), program, &packages)?,
         source_places: places(alloc, asked.sources.as_slice(), program)?,
         escapes: asked.escapes,
     })

@@ -1,11 +1,13 @@
 // The functions of a program that matchers name.
 ghost use Rattle.std.specs.Prelude.{◌≡◌, ◌<◌, ◌^◌, ◌||◌, IfOk, OnOk, length};
 ghost use Rattle.argot_config.specs.Asking.{AreFunctions};
-ghost use Rattle.argot_config.specs.Looking.{finds_function, three_in};
+ghost use Rattle.argot_config.specs.Looking.{finds_function, is_found, seeks, three_in};
 ghost use Rattle.argot_config.specs.Matching.{looks_at_functions as kind_looks_at_functions};
 ghost use Rattle.argot_config.specs.Marking.{Gathers, IsMarked, MarksMore};
+ghost use Rattle.argot_config.specs.Packages.{ArePackages, path_of};
 
 use crate::looking::Look;
+use crate::packages::Packages;
 use argot_config_read::{MatchKind, Matcher};
 use argot_plain::{Ident, Program};
 use argot_text::Sequence;
@@ -16,12 +18,14 @@ pub(crate) fn functions(
     alloc: Global,
     matchers: &[Matcher],
     program: &Program,
+    packages: &Packages<'_>,
 ) -> Result<Sequence<u32>, AllocError>
+    requires { ArePackages program.now packages.now }
     ensures { IfOk result (AreFunctions program.now matchers.now) }
 {
     let mut marks = vec![in alloc; false; program.function_count()]?;
     for matcher in matchers {
-        mark(alloc, matcher, program, marks.as_mut_slice())?;
+        mark(alloc, matcher, program, packages, marks.as_mut_slice())?;
     }
     let found = numbers(alloc, marks.as_slice())?;
     Ok(Sequence::from_vec(found))
@@ -32,9 +36,11 @@ fn mark(
     alloc: Global,
     matcher: &Matcher,
     program: &Program,
+    packages: &Packages<'_>,
     marks: &mut [bool],
 ) -> Result<(), AllocError>
-    requires { length marks.old ≡ length program.now.functions }
+    requires marks { length marks.old ≡ length program.now.functions }
+    requires packages { ArePackages program.now packages.now }
     ensures same_length { length marks.new ≡ length marks.old }
     ensures marked { OnOk result (MarksMore program.now matcher.now marks.old marks.new) }
 {
@@ -42,9 +48,10 @@ fn mark(
         return Ok(());
     }
     let mut look = Look::new(alloc, matcher)?;
+    let passing = look.passing(alloc, packages.paths.as_slice())?;
     for g in 0..program.function_count() {
-        let ident = &program.function(g).ident;
-        let mark = is_marked(&mut look, ident, marks[g]);
+        let passes = packages.at(&passing, g);
+        let mark = is_marked(&mut look, passes, &program.function(g).ident, marks[g]);
         marks[g] = mark;
     }
     Ok(())
@@ -59,14 +66,19 @@ fn looks_at_functions(kind: MatchKind) -> bool
     }
 }
 
-// The mark of a function, with what the look finds.
-fn is_marked(look: &mut Look<'_>, ident: &Option<Ident>, mark: bool) -> bool
+// The mark of a function, with what the look finds. It is known whether the path of the function's package passes, so that
+// of other packages' functions the look sees nothing.
+fn is_marked(look: &mut Look<'_>, passes: bool, ident: &Option<Ident>, mark: bool) -> bool
+    requires { passes ≡ is_found (seeks look.old.package) (path_of ident.now) }
     ensures found { result ≡ (mark || finds_function (three_in look.old) ident.now) }
     ensures same { three_in look.new ≡ three_in look.old }
 {
+    if mark || !passes {
+        return mark;
+    }
     match ident {
-        Some(ident) => mark || look.finds(ident),
-        None => mark,
+        Some(ident) => look.finds(ident),
+        None => false,
     }
 }
 

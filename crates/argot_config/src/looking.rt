@@ -1,5 +1,6 @@
 // Tests made ready to look at many texts. The calls of `regex` stand here.
 ghost use Rattle.std.specs.Prelude.{◌≡◌, IfOk};
+ghost use Rattle.argot_config.specs.Packages.{found_in};
 ghost use Rattle.argot_config.specs.Looking.{are_found, is_found, seeks, sought_by, three_in, three_of};
 
 use argot_config_read::{Matcher, Test};
@@ -56,6 +57,18 @@ impl<'r> Look<'r> {
             receiver: Looker::new(alloc, &matcher.receiver)?,
             name: Looker::new(alloc, &matcher.name)?,
         })
+    }
+
+    /// For each path of a package whether it passes.
+    pub(crate) fn passing(&mut self, alloc: Global, paths: &[&str]) -> Result<Vec<bool>, AllocError>
+        ensures passing { IfOk result (λ v. v.items ≡ found_in (seeks self.old.package) paths.now) }
+        ensures same { three_in self.new ≡ three_in self.old }
+    {
+        let mut passing = Vec::new(alloc);
+        for path in paths {
+            passing.push(self.package.passes(path))?;
+        }
+        Ok(passing)
     }
 
     /// Whether each part of what is named passes. The name comes first, since it tells most.

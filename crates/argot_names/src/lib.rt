@@ -7,10 +7,14 @@
 
 mod checks;
 mod library;
+mod loading;
 mod resolving;
+mod sound;
+mod stand_in;
 mod texts;
 
 pub use argot_naming::{Feature, Flag, NameFault};
+pub use loading::load;
 pub use resolving::resolve;
 pub use texts::stubs_named;
 
