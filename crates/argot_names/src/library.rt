@@ -1,20 +1,10 @@
 // Whether an import of a package that is reached finds a text of the library.
-ghost use Rattle.std.specs.Prelude.{◌≡◌, ◌<◌, ◌↔◌, ℕ, true, false, length, slice_get, Some};
+ghost use Rattle.std.specs.Prelude.{◌≡◌, ◌<◌, ℕ, true, false, length};
 ghost use Rattle.argot_naming.specs.Lists.{In};
 ghost use Rattle.argot_names.specs.Naming.{is_library, IsReachedLeader, NamesAt};
 
-use argot_packages::{Found, Survey, import_at};
+use argot_packages::{Found, Survey, found_at, import_at, leader_at};
 use indexmap::IndexSet;
-
-// The first file of the package of this file.
-fn leader_at(leaders: &[Option<u32>], file: u32) -> Option<u32>
-    ensures { (l : ℕ) → result ≡ Some l ↔ slice_get leaders.now file ≡ Some (Some l) }
-{
-    match leaders.get(file as usize) {
-        Some(leader) => *leader,
-        None => None,
-    }
-}
 
 // The number is one of these.
 fn has(numbers: &IndexSet<u32>, number: u32) -> bool
@@ -45,14 +35,6 @@ fn is_library(found: Found) -> bool
         Found::LeftOut => false,
         Found::Nothing => false,
     }
-}
-
-// What the import of this number finds. No memory.
-fn found_at(founds: &[Found], k: usize) -> Found
-    requires { k < length founds.now }
-    ensures { slice_get founds.now k ≡ Some result }
-{
-    founds[k]
 }
 
 // The import of this number names the library's text at this path.

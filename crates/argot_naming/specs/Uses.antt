@@ -55,12 +55,13 @@ pub record IsOfPackage (h : Handed) (home : Home) (file token : ℕ) (path : Lis
   pub means : Means h home file token name (Declared file node)
   pub imported : IsImported h file name node path place
 
--- an exported declaration of the package that the path finds
+-- an exported declaration of the package that the path finds; of several the first is meant
 pub record IsMember (h : Handed) (path name : List ℕ) (file node : ℕ) : Type 0 where
   pub target : Home
   pub place : Place
   pub finds : Finds h path target
   pub top : IsTop h target name file node place
+  pub least : (other n : ℕ) (p : Place) → IsTop h target name other n p → (file < other) ⊎ ((file ≡ other) × (node ≤ n))
   pub exported : IsExported name
 
 -- the first name of its block with that text, which a later `:=` assigns to. Should two nodes bring one name there, it is

@@ -1,5 +1,5 @@
 // The first import on a cycle.
-ghost use Rattle.std.specs.Prelude.{◌≡◌, ◌<◌, ◌^◌, ◌+◌, ◌↔◌, List, ℕ, Some, true, length, slice_get, IfSome, IfNone, IfOk};
+ghost use Rattle.std.specs.Prelude.{◌≡◌, ◌<◌, ◌^◌, ◌+◌, List, ℕ, true, length, IfSome, IfNone, IfOk};
 ghost use Rattle.argot_naming.specs.Handed.{Handed, Place};
 ghost use Rattle.argot_naming.specs.Faults.{IsOnCycle};
 ghost use Rattle.argot_packages.specs.Surveyed.{IsSurvey};
@@ -12,7 +12,7 @@ use crate::ranks::ranks_of;
 use crate::spot::{Spot, is_first, spot_at};
 use crate::standing::{has, reached_leader};
 use argot_links::Chains;
-use argot_packages::{Found, Survey, graph_of, import_at, reach_from, target_of};
+use argot_packages::{Survey, found_at, graph_of, import_at, reach_from, target_of};
 use argot_text::Memory;
 use argot_tree::Lexed;
 use std::alloc::Global;
@@ -22,14 +22,6 @@ use std::alloc::Global;
 struct Step {
     from: u32,
     to: u32,
-}
-
-// What the import of this number finds.
-fn found_at(founds: &[Found], k: usize) -> Found
-    requires { k < length founds.now }
-    ensures { slice_get founds.now k ≡ Some result }
-{
-    founds[k]
 }
 
 // An import of a package that is reached, where it finds one that is there.

@@ -1,20 +1,10 @@
 // Files of packages that are reached.
-ghost use Rattle.std.specs.Prelude.{◌≡◌, ◌↔◌, ℕ, Some, true, false, slice_get};
+ghost use Rattle.std.specs.Prelude.{◌≡◌, ◌↔◌, ℕ, Some, true, false};
 ghost use Rattle.argot_naming.specs.Lists.{In};
 ghost use Rattle.argot_package_faults.specs.Standing.{IsLedBy};
 
-use argot_packages::Survey;
+use argot_packages::{Survey, leader_at};
 use indexmap::IndexSet;
-
-// The first file of the package of this file.
-fn leader_at(leaders: &[Option<u32>], file: u32) -> Option<u32>
-    ensures { (l : ℕ) → result ≡ Some l ↔ slice_get leaders.now file ≡ Some (Some l) }
-{
-    match leaders.get(file as usize) {
-        Some(leader) => *leader,
-        None => None,
-    }
-}
 
 /// The number is one of these. No memory.
 pub fn has(numbers: &IndexSet<u32>, number: u32) -> bool

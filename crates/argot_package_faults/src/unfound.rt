@@ -1,5 +1,5 @@
 // The first import that finds no package.
-ghost use Rattle.std.specs.Prelude.{◌≡◌, ◌<◌, ◌↔◌, List, ℕ, Some, true, length, slice_get};
+ghost use Rattle.std.specs.Prelude.{◌≡◌, ◌<◌, ◌↔◌, List, ℕ, length};
 ghost use Rattle.argot_naming.specs.Handed.{Handed, Place};
 ghost use Rattle.argot_naming.specs.Faults.{FindsNone};
 ghost use Rattle.argot_packages.specs.Surveyed.{IsSurvey};
@@ -8,7 +8,7 @@ ghost use Rattle.argot_package_faults.specs.Missing.{is_nothing, IsMissingAt};
 
 use crate::spot::{Spot, sooner, spot_at};
 use crate::standing::reached_leader;
-use argot_packages::{Found, Survey, import_at};
+use argot_packages::{Found, Survey, found_at, import_at};
 use argot_tree::Lexed;
 
 // Nothing is found.
@@ -21,14 +21,6 @@ fn is_nothing(found: Found) -> bool
         Found::Library(_) => false,
         Found::LeftOut => false,
     }
-}
-
-// What the import of this number finds.
-fn found_at(founds: &[Found], k: usize) -> Found
-    requires { k < length founds.now }
-    ensures { slice_get founds.now k ≡ Some result }
-{
-    founds[k]
 }
 
 // Where the path of an import stands that finds nothing and is one of a package that is reached.

@@ -40,16 +40,16 @@ fn link(graph: &mut Chains, from: Option<u32>, to: Option<u32>) -> Result<(), Me
     Ok(())
 }
 
-// The answer of this number. No memory.
-fn found_at(founds: &[Found], k: usize) -> Found
+/// What the import of this number finds. No memory.
+pub fn found_at(founds: &[Found], k: usize) -> Found
     requires { k < length founds.now }
     ensures { slice_get founds.now k ≡ Some result }
 {
     founds[k]
 }
 
-// The first file of the package of this file.
-fn leader_at(leaders: &[Option<u32>], file: u32) -> Option<u32>
+/// The first file of the package of this file. No memory.
+pub fn leader_at(leaders: &[Option<u32>], file: u32) -> Option<u32>
     ensures { (l : ℕ) → result ≡ Some l ↔ slice_get leaders.now file ≡ Some (Some l) }
 {
     match leaders.get(file as usize) {

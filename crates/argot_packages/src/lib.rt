@@ -29,7 +29,7 @@ pub use find::Found;
 pub use firsts::{Sort, firsts_of};
 pub use folders::folder_of;
 pub use founds::import_at;
-pub use graph::{graph_of, target_of};
+pub use graph::{found_at, graph_of, leader_at, target_of};
 pub use handed::{bytes_at, nodes_at, tokens_at};
 pub use literals::text_value;
 pub use paths::library_text;

@@ -1,5 +1,5 @@
 // The numbers of packages.
-ghost use Rattle.std.specs.Prelude.{◌≡◌, ◌<◌, ◌≤◌, ◌^◌, ◌↔◌, ℕ, List, Some, length, slice_get, IfSome, IfNone};
+ghost use Rattle.std.specs.Prelude.{◌≡◌, ◌<◌, ◌^◌, ◌↔◌, ℕ, List, Some, length, slice_get, IfSome, IfNone};
 ghost use Rattle.argot_naming.specs.declared.home.Home.{Home};
 ghost use Rattle.argot_naming.specs.Lists.{In};
 ghost use Rattle.argot_naming.specs.Handed.{Handed};
@@ -11,7 +11,7 @@ ghost use Rattle.argot_reached.specs.Reached.{homes_of, IsReach};
 ghost use Rattle.argot_reached.specs.Numbers.{IsTargetAt, IsOfNumber, IsFoundBy};
 
 use crate::reached::Reached;
-use argot_packages::Found;
+use argot_packages::{Found, leader_at};
 use indexmap::IndexSet;
 
 // The place of a first file.
@@ -21,16 +21,6 @@ fn number_of(firsts: &IndexSet<u32>, first: u32) -> Option<u32>
 {
     match firsts.get_index_of(&first) {
         Some(index) => u32::try_from(index).ok(),
-        None => None,
-    }
-}
-
-// The first file of the package of this file.
-fn leader_at(leaders: &[Option<u32>], file: u32) -> Option<u32>
-    ensures { (l : ℕ) → result ≡ Some l ↔ slice_get leaders.now file ≡ Some (Some l) }
-{
-    match leaders.get(file as usize) {
-        Some(leader) => *leader,
         None => None,
     }
 }

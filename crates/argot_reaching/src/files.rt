@@ -1,21 +1,12 @@
 // The files of each package.
-ghost use Rattle.std.specs.Prelude.{◌≡◌, ◌<◌, ◌≤◌, ◌^◌, ◌↔◌, ◌+◌, ◌-◌, ℕ, [], Some, length, slice_get, slice_index_or, IfOk};
+ghost use Rattle.std.specs.Prelude.{◌≡◌, ◌<◌, ◌≤◌, ◌+◌, ℕ, [], Some, length, slice_get, slice_index_or, IfOk};
 ghost use Rattle.argot_naming.specs.Lists.{IsListOf};
 ghost use Rattle.argot_reaching.specs.Files.{IsFileFrom, AreFilesFrom};
 
 use argot_links::Chains;
+use argot_packages::leader_at;
 use argot_text::Memory;
 use std::alloc::Global;
-
-// The first file of the package of this file.
-fn leader_at(leaders: &[Option<u32>], file: u32) -> Option<u32>
-    ensures { (l : ℕ) → result ≡ Some l ↔ slice_get leaders.now file ≡ Some (Some l) }
-{
-    match leaders.get(file as usize) {
-        Some(leader) => *leader,
-        None => None,
-    }
-}
 
 // Puts the file first in the list of its package.
 fn put(files: &mut Chains, leaders: &[Option<u32>], file: u32)

@@ -17,6 +17,9 @@ module _ (bytes : List ℕ) (tokens : List Token) (brought : List Brought) (open
             let w = h.there k e in
             (k, w.1, subst (IsNamed bytes tokens brought opens text k) (some_is w.0 c (sym w.2.there ∙ f ∙ g)) w.2);
         first = λ c other j g n. subst (λ (x : Brought). x.token ≤ other.token) (some_is b c g) (h.first k j b other e f (slice_get_within brought j other n.there) n);
+        least = λ c other j g n at.
+            let that : b ≡ c = some_is b c g in
+            (k, subst (λ x. slice_get brought k ≡ Some x) that f, h.least k j b other e f (slice_get_within brought j other n.there) n (subst (λ (x : Brought). x.token ≡ other.token) (sym that) at));
         none = λ other j g n. absurd (cc);
       }
 
@@ -25,6 +28,7 @@ module _ (bytes : List ℕ) (tokens : List Token) (brought : List Brought) (open
       record {
         there = λ c g. absurd (cc);
         first = λ c other j g n. absurd (cc);
+        least = λ c other j g n at. absurd (cc);
         none = λ other j g n. h.none j other e (slice_get_within brought j other n.there) n;
       }
 
@@ -40,6 +44,7 @@ module _ (bytes : List ℕ) (tokens : List Token) (brought : List Brought) (open
             let lower : c.token < token = subst (λ (x : Brought). x.token < token) (some_is b c e) low in
             (w.0, w.1, record { there = w.2.there; is = record { block = w.2.block; earlier = lower; same = w.2.spells ∙ is } });
         first = λ c other k e l a. h.first c other k e (named token text is k other a);
+        least = λ c other k e l a at. h.least c other k e (named token text is k other a) at;
         none = λ other k e l a. absurd (cc);
       }
 
@@ -49,6 +54,7 @@ module _ (bytes : List ℕ) (tokens : List Token) (brought : List Brought) (open
       record {
         there = λ c e. absurd (cc);
         first = λ c other k e l a. absurd (cc);
+        least = λ c other k e l a at. absurd (cc);
         none = λ other k e l a. absurd (omega (arith, h.first b other k refl (named token text is k other a), a.is.earlier));
       }
 
@@ -58,5 +64,6 @@ module _ (bytes : List ℕ) (tokens : List Token) (brought : List Brought) (open
       record {
         there = λ c e. absurd (cc);
         first = λ c other k e l a. absurd (cc);
+        least = λ c other k e l a at. absurd (cc);
         none = λ other k e l a. h.none other k refl (named token text is k other a);
       }

@@ -29,6 +29,10 @@ module _ (bytes : List ℕ) (tokens : List Token) (brought : List Brought) where
               subst (λ (x : Brought). x.token ≤ other.token) (sym that) (subst (λ (x : Brought). d.1.token ≤ x.token) one d.4)
           | inr apart ↦ h.first i j c other f g (omega arith) n
         ];
+        least = λ i j c other f g l n at. elim (cases_eq j k) [
+          | inl same ↦ omega (arith, same, (h.there i f).1)
+          | inr apart ↦ h.least i j c other f g (omega arith) n at
+        ];
         none = λ j other f l n. elim (cases_eq j k) [
           | inl same ↦
               let one : b ≡ other = same_item o t k j b other e same n in
@@ -41,7 +45,7 @@ module _ (bytes : List ℕ) (tokens : List Token) (brought : List Brought) where
 
   -- item k is
   pub now_first : (o : ℕ) (t : List ℕ) (k : ℕ) (r : Option ℕ) (b : Brought) → IsFirstNamed bytes tokens brought o t k r → slice_get brought k ≡ Some b → b.opens ≡ o → text_in bytes tokens b.token ≡ t
-      → ((j : ℕ) (c : Brought) → r ≡ Some j → slice_get brought j ≡ Some c → b.token ≤ c.token) → IsFirstNamed bytes tokens brought o t (k + 1) (Some k)
+      → ((j : ℕ) (c : Brought) → r ≡ Some j → slice_get brought j ≡ Some c → b.token < c.token) → IsFirstNamed bytes tokens brought o t (k + 1) (Some k)
   now_first o t k r b h e block spells low =
       record {
         there = λ i f. (b, omega (arith, some_is k i f), subst (λ x. IsNamed bytes tokens brought o t x b) (some_is k i f) (record { there = e; block = block; spells = spells }));
@@ -52,16 +56,23 @@ module _ (bytes : List ℕ) (tokens : List Token) (brought : List Brought) where
                   let one : b ≡ other = same_item o t k j b other e same n in
                   let token : b.token ≡ other.token = (λ i. (one i).token) in
                   omega (arith, token)
-              | inr apart ↦ before r refl j other (omega arith) n
+              | inr apart ↦ let behind = before r refl j other (omega arith) n in omega (arith, behind)
             ]);
+        least = λ i j c other f g l n at.
+            let that : b ≡ c = some_is b c (sym e ∙ subst (λ x. slice_get brought x ≡ Some c) (sym (some_is k i f)) g) in
+            let token : b.token ≡ other.token = subst (λ (x : Brought). x.token ≡ other.token) (sym that) at in
+            elim (cases_eq j k) [
+              | inl same ↦ omega (arith, same, some_is k i f)
+              | inr apart ↦ let behind = before r refl j other (omega arith) n in absurd (omega (arith, behind, token))
+            ];
         none = λ j other f l n. absurd (cc);
       }
     where
-      before : (q : Option ℕ) → r ≡ q → (j : ℕ) (other : Brought) → j < k → IsNamed bytes tokens brought o t j other → b.token ≤ other.token
+      before : (q : Option ℕ) → r ≡ q → (j : ℕ) (other : Brought) → j < k → IsNamed bytes tokens brought o t j other → b.token < other.token
       before None q j other l n = absurd (h.none j other q l n)
       before (Some i) q j other l n =
           let w = h.there i q in
           omega (arith, low i w.0 q w.2.there, h.first i j w.0 other q w.2.there l n)
 
   pub no_items : (o : ℕ) (t : List ℕ) (r : Option ℕ) → r ≡ None → IsFirstNamed bytes tokens brought o t 0 r
-  no_items o t r is = record { there = λ k e. absurd (cc (e, is)); first = λ k j b other e g l n. absurd (omega (arith, l)); none = λ j other e l n. absurd (omega (arith, l)) }
+  no_items o t r is = record { there = λ k e. absurd (cc (e, is)); first = λ k j b other e g l n. absurd (omega (arith, l)); least = λ k j b other e g l n at. absurd (omega (arith, l)); none = λ j other e l n. absurd (omega (arith, l)) }

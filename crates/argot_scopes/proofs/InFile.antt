@@ -18,6 +18,7 @@ use Rattle.argot_scopes.specs.Meant.{IsScoped, IsBest}
 use Rattle.argot_naming.specs.Uses.{IsFirstOf}
 use Rattle.argot_scopes.specs.Earliest.{IsEarlierAt, IsEarliest}
 use Rattle.argot_scopes.specs.Again.{IsAgainAt, IsFirstAgain}
+use Rattle.argot_scopes.proofs.Ascending.{not_behind}
 use Rattle.argot_scopes.specs.Files.{file_of, MeansLocal, MeansNoLocal, IsAgain, BeginsAt, IsFirstPlace, HasNoPlace}
 
 manner_back : (m : Manner) → manner_of (written_of m) ≡ m
@@ -154,6 +155,11 @@ module _ (bytes : List ℕ) (tokens : List Token) (tree : List TreeNode) (brough
             let own : IsEarlierAt bytes tokens brought token opens k.among.0 k.item = record { there = k.among.1; is = record { block = k.is.block; earlier = omega (arith, k.is.earlier, t.2.is.earlier); same = k.is.same ∙ t.2.is.same } } in
             let low : b.token ≤ k.item.token = h.first b k.item k.among.0 e (omega (arith, slice_get_within brought k.among.0 k.item k.among.1)) own in
             absurd (omega (arith, k.is.earlier));
+        least = λ {how} {other} {closes} {from} beside.
+            let item : Brought = record { manner = written_of how; node = other; token = b.token; opens = opens; closes = closes; from = from } in
+            let i = stands how other b.token opens closes from beside in
+            let by = h.least b item i.0 e (omega (arith, slice_get_within brought i.0 item i.1)) (record { there = i.1; is = record { block = refl; earlier = t.2.is.earlier; same = t.2.is.same } }) refl in
+            not_behind (λ (x : Brought). x.node) brought all.ordered by.0 i.0 b item by.2 by.1 i.1;
       }
 
   pub earliest_none : (token opens count : ℕ) (result : Option Brought) → length brought ≤ count → IsEarliest bytes tokens brought token opens count result → result ≡ None → HasEarlier f token opens → ⊥

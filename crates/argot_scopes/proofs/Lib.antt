@@ -9,3 +9,4 @@ pub mod Linking
 pub mod Seeking
 pub mod Walking
 pub mod FirstNames
+pub mod Ascending

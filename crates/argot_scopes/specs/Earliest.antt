@@ -10,14 +10,20 @@ pub record IsEarlierAt (bytes : List ℕ) (tokens : List Token) (brought : List 
   pub there : slice_get brought k ≡ Some b
   pub is : IsEarlier bytes tokens token opens b
 
--- of the earlier names before this number the one that stands first
+-- the item stands at that number or before it
+abbrev pub StandsBy : List Brought → Brought → ℕ → Type 0
+StandsBy brought b j = (k : ℕ) × (slice_get brought k ≡ Some b) × (k ≤ j)
+
+-- of the earlier names before this number the one that stands first, and of those at one token the first of the list
 pub record IsEarliest (bytes : List ℕ) (tokens : List Token) (brought : List Brought) (token opens count : ℕ) (result : Option Brought) : Type 0 where
   pub there : (b : Brought) → result ≡ Some b → (k : ℕ) × (k < count) × IsEarlierAt bytes tokens brought token opens k b
   pub first : (b other : Brought) (k : ℕ) → result ≡ Some b → k < count → IsEarlierAt bytes tokens brought token opens k other → b.token ≤ other.token
+  pub least : (b other : Brought) (k : ℕ) → result ≡ Some b → k < count → IsEarlierAt bytes tokens brought token opens k other → b.token ≡ other.token → StandsBy brought b k
   pub none : (other : Brought) (k : ℕ) → result ≡ None → k < count → IsEarlierAt bytes tokens brought token opens k other → ⊥
 
--- of the names of that block with this text the one that stands first
+-- of the names of that block with this text the one that stands first, and of those at one token the first of the list
 pub record IsFirstItem (bytes : List ℕ) (tokens : List Token) (brought : List Brought) (opens : ℕ) (text : List ℕ) (result : Option Brought) : Type 0 where
   pub there : (b : Brought) → result ≡ Some b → (k : ℕ) × (k < length brought) × IsNamed bytes tokens brought opens text k b
   pub first : (b other : Brought) (j : ℕ) → result ≡ Some b → IsNamed bytes tokens brought opens text j other → b.token ≤ other.token
+  pub least : (b other : Brought) (j : ℕ) → result ≡ Some b → IsNamed bytes tokens brought opens text j other → b.token ≡ other.token → StandsBy brought b j
   pub none : (other : Brought) (j : ℕ) → result ≡ None → IsNamed bytes tokens brought opens text j other → ⊥

@@ -24,10 +24,12 @@ pub record IsNamed (bytes : List ℕ) (tokens : List Token) (brought : List Brou
   pub block : b.opens ≡ opens
   pub spells : text_in bytes tokens b.token ≡ text
 
--- of the names of that block with this text before a number the one that stands first
+-- of the names of that block with this text before a number the one that stands first, and of those at one token the one
+-- with the smallest number
 pub record IsFirstNamed (bytes : List ℕ) (tokens : List Token) (brought : List Brought) (opens : ℕ) (text : List ℕ) (count : ℕ) (result : Option ℕ) : Type 0 where
   pub there : (k : ℕ) → result ≡ Some k → (b : Brought) × (k < count) × IsNamed bytes tokens brought opens text k b
   pub first : (k j : ℕ) (b other : Brought) → result ≡ Some k → slice_get brought k ≡ Some b → j < count → IsNamed bytes tokens brought opens text j other → b.token ≤ other.token
+  pub least : (k j : ℕ) (b other : Brought) → result ≡ Some k → slice_get brought k ≡ Some b → j < count → IsNamed bytes tokens brought opens text j other → b.token ≡ other.token → k ≤ j
   pub none : (j : ℕ) (other : Brought) → result ≡ None → j < count → IsNamed bytes tokens brought opens text j other → ⊥
 
 -- the table has them
