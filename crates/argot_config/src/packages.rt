@@ -1,5 +1,5 @@
 // The packages of functions by numbers, so that a matcher looks at each path once.
-ghost use Rattle.std.specs.Prelude.{◌≡◌, ◌<◌, ℕ, IfOk, Some, length, slice_get};
+ghost use Rattle.std.specs.Prelude.{◌≡◌, ◌<◌, ℕ, List, IfOk, length};
 ghost use Rattle.argot_plain.specs.Code.{Code, IsFunction};
 ghost use Rattle.argot_plain.specs.declared.functions.Function.{Function};
 ghost use Rattle.argot_config.specs.Looking.{Sought, is_found};

@@ -6,7 +6,7 @@ use Rattle.argot_config.proofs.Marked.{marked_all, marked_next, marked_none}
 use Rattle.argot_config.proofs.functions.mark.Goals as goal
 
 pub loop-g-init : goal.loop-g-init
-loop-g-init c = (marked_none c.args.program.now c.args.matcher.now c.args.marks.now, c.in_ok-look.ensures)
+loop-g-init c = (marked_none c.args.program.now c.args.matcher.now c.args.marks.now, c.in_ok-passing.ensures.same ∙ c.in_ok-look.ensures)
 
 pub loop-g-preserved : goal.loop-g-preserved
 loop-g-preserved c =
