@@ -20,4 +20,4 @@ mod tops;
 
 pub use bases::{node_bases, node_count, node_number};
 pub use decls::decls_of;
-pub use table::{decl_number, decl_table};
+pub use table::{decl_number, decl_table, entry_at, note};

@@ -35,5 +35,5 @@ module _ (h : Handed) (path name : List ℕ) where
   in_target target None finds exported there none =
       nothing (λ other node m. none other node m.place (subst (λ x. IsTop h x name other node m.place) (finds_one h path m.target target m.finds finds) m.top))
   in_target target (Some top) finds exported there none =
-      some (record { target = target; place = there.place; finds = finds; top = there.is; exported = exported })
+      some (record { target = target; place = there.place; finds = finds; top = there.is; least = there.first; exported = exported })
       (λ other node m. there.first other node m.place (subst (λ x. IsTop h x name other node m.place) (finds_one h path m.target target m.finds finds) m.top))

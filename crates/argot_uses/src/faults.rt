@@ -33,7 +33,7 @@ fn start_at(tokens: &[Token], at: usize) -> Option<u32>
 }
 
 /// Whether the name is `_`.
-fn is_blank(name: &[u8]) -> bool
+pub fn is_blank(name: &[u8]) -> bool
     ensures { IsTrue result ↔ (name.now ≡ codes "_") }
 {
     name == b"_".as_slice()

@@ -9,6 +9,7 @@ mod imports;
 mod members;
 mod resolving;
 
+pub use faults::is_blank;
 pub use imports::package_meant;
 pub use members::member_meant;
 pub use resolving::unresolved;
