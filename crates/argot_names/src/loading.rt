@@ -1,10 +1,9 @@
 // The packages, the declarations and the uses of names.
-ghost use Rattle.std.specs.Prelude.{◌≡◌, ◌<◌, ℕ, List, IfOk, IfErr, OnOk};
-ghost use Rattle.argot_typed.specs.declared.program.Use.{Use};
-ghost use Rattle.argot_naming.specs.Lists.{IsListOf};
+ghost use Rattle.std.specs.Prelude.{◌≡◌, ℕ, List, IfOk, IfErr, OnOk};
+ghost use Rattle.argot_naming.specs.Handed.{Handed};
 ghost use Rattle.argot_naming.specs.Agreeing.{Agrees, HasLibrary};
 ghost use Rattle.argot_naming.specs.Faults.{Refuses, IsResolved};
-ghost use Rattle.argot_naming.specs.Loaded.{AreDecls, IsUse, IsLoaded};
+ghost use Rattle.argot_naming.specs.Loaded.{IsLoaded};
 ghost use Rattle.argot_packages.specs.Reads.{handed};
 ghost use Rattle.argot_reached.specs.Reached.{homes_of, IsReach};
 ghost use Rattle.argot_tops.specs.Tops.{AreTops};
