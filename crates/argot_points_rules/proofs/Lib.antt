@@ -1,2 +1,4 @@
 pub mod Counting
 pub mod Compared
+pub mod Enough
+pub mod Placed

@@ -1,9 +1,11 @@
 // The rules of each instruction.
-ghost use Rattle.std.specs.Prelude.{◌≡◌, ◌+◌, ◌-◌, ◌<◌, ◌≤◌, ◌^◌, ◌++◌, ◌∷◌, [], Some, None, length, drop, slice_get, ◌==◌, if◌then◌else◌, OnOk, IfOk};
+ghost use Rattle.std.specs.Prelude.{◌≡◌, true, ◌+◌, ◌-◌, ◌<◌, ◌≤◌, ◌^◌, ◌++◌, ◌∷◌, [], Some, None, length, drop, slice_get, ◌==◌, if◌then◌else◌, OnOk, IfOk};
 ghost use Rattle.argot_plain.specs.Code.{handed_values};
 ghost use Rattle.argot_plain.specs.WellFormed.{WellFormed};
 ghost use Rattle.argot_facts.specs.Numbers.{node, leaves_of, own_site, shape_at};
 ghost use Rattle.argot_points_rules.specs.declared.rules.Rule.TheVariants.{Fresh};
+ghost use Rattle.std.specs.List.Sorted.{IsNonDecreasingBy};
+ghost use Rattle.argot_points_rules.specs.Stretches.{reached};
 ghost use Rattle.argot_points_rules.specs.Column.{owned, join_copies, register_copies, item_copies, grow_rules, enter_leaves, enters, return_leaves, returns, fresh_of, fresh_from, reference, hand_rules, variable_rules, kind_rules, place_rules, function_rules, rules_of, definitions};
 
 use crate::definitions::definitions;
@@ -11,6 +13,8 @@ use crate::nodes::{handed_values, leaves_of, own_site, small};
 use crate::parts::{push_move, push_part};
 use crate::paths::copied;
 use crate::rules::{Owned, Rule};
+use crate::sites::{end_of_sites, first_site};
+use crate::stretches::{are_in_order, stretch_of};
 use crate::values::{
     push_copies, push_keeps, push_loads, push_shifts, push_value_copies, push_value_loads,
     push_value_stores,
@@ -20,7 +24,7 @@ use argot_plain::{Callee, Function, Kind, Program, Site};
 use argot_text::{Memory, Path};
 use std::alloc::Global;
 
-/// Where rules are made: a place of a function, with the definitions that reach places.
+/// Where rules are made: a place of a function, with the definitions that reach it, among others where they aren't in order.
 #[derive(Drop)]
 struct At<'a> {
     program: &'a Program,
@@ -300,8 +304,9 @@ fn push_fresh_at(
 fn push_fresh(rules: &mut Vec<Owned>, at: &At, by: Node) -> Result<(), Memory>
     ensures { OnOk result (rules.new.items ≡ rules.old.items ++ fresh_of at.now.program.now at.now.owner at.now.place by) }
 {
-    let count = at.program.site_count();
-    for s in at.program.globals().len()..count {
+    let first = first_site(at.program, at.place);
+    let end = end_of_sites(at.program, first, at.place);
+    for s in first..end {
         push_fresh_at(rules, at, by, s, at.program.site(s))?;
     }
     Ok(())
@@ -509,8 +514,10 @@ fn push_function(
     program: &Program,
     function: &Function,
     defs: &[(u32, u32, u32)],
+    in_order: bool,
     owner: u32,
 ) -> Result<(), Memory>
+    requires order { in_order ≡ true → IsNonDecreasingBy reached defs.now }
     requires inside { (function.now.entry ≤ function.now.leave) × (function.now.leave < length program.now.instrs) }
     requires well { WellFormed program.now }
     ensures { OnOk result (rules.new.items ≡ rules.old.items ++ place_rules program.now function.now defs.now owner function.now.entry (function.now.leave + 1 - function.now.entry)) }
@@ -520,7 +527,7 @@ fn push_function(
         let at = At {
             program,
             function,
-            defs,
+            defs: stretch_of(defs, in_order, place),
             owner,
             place,
         };
@@ -529,7 +536,8 @@ fn push_function(
     Ok(())
 }
 
-/// The rules of all instructions, with the definitions that reach their places.
+/// The rules of all instructions, with the definitions that reach their places. Where the definitions are in the order of
+/// places, those of a place are found by search; else each is looked at for each register that a place reads.
 pub fn rules_of(
     alloc: Global,
     program: &Program,
@@ -537,6 +545,7 @@ pub fn rules_of(
 ) -> Result<Vec<Owned>, Memory>
     ensures { IfOk result (λ v. v.items ≡ rules_of program.now defs.now) }
 {
+    let in_order = are_in_order(defs);
     let mut rules = Vec::new(alloc);
     for g in 0..program.function_count() {
         push_function(
@@ -545,6 +554,7 @@ pub fn rules_of(
             program,
             program.function(g),
             defs,
+            in_order,
             small(g)?,
         )?;
     }

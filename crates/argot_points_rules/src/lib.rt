@@ -14,6 +14,8 @@ mod nodes;
 mod parts;
 mod paths;
 mod rules;
+mod sites;
+mod stretches;
 mod values;
 
 pub use column::{reference, rules_of};

@@ -8,6 +8,7 @@ ghost use Rattle.argot_points_rules.specs.Listing.{ListsNodes, LacksNodes};
 ghost use Rattle.argot_points_rules.specs.declared.rules.PointsFault.TheVariants.{Nodes, Memory as OutOfMemory};
 
 use crate::rules::PointsFault;
+use crate::sites::{end_of_sites, first_site};
 use argot_facts::Node;
 use argot_plain::{Callee, Function, Kind, Program};
 use argot_text::{Memory, Path, Paths};
@@ -141,13 +142,9 @@ fn push_parameter_nodes(
 pub(crate) fn own_site(program: &Program, place: u32) -> Option<usize>
     ensures { result ≡ own_site program.now place }
 {
-    let count = program.site_count();
-    for n in program.globals().len()..count {
-        if program.site(n).place == place {
-            return Some(n);
-        }
-    }
-    None
+    let first = first_site(program, place);
+    let end = end_of_sites(program, first, place);
+    if first < end { Some(first) } else { None }
 }
 
 /// How many leaves each element has of what the site of the place holds.

@@ -17,6 +17,8 @@ pub enum Stage {
     Points,
     /// The relation, found in passes.
     Passes,
+    /// The relation, found by the worklist, and whether passes find the same.
+    Both,
 }
 
 /// As many lines are printed at most.
@@ -101,20 +103,31 @@ fn push_relation(out: &mut Out, found: Result<Points, PointsFault>) -> Result<()
     }
 }
 
+// The relation, and whether it is the same when it is found in passes.
+fn push_both(alloc: Global, out: &mut Out, program: &Program) -> Result<(), Memory> {
+    let mut passes = Out::new(alloc);
+    push_relation(&mut passes, points_by_passes(alloc, program))?;
+    let before = out.bytes().len();
+    push_relation(out, points(alloc, program))?;
+    match out.bytes().get(before..) {
+        Some(found) if found == passes.bytes() => out.push_str("in passes the same\n"),
+        _ => out.push_str("in passes another one\n"),
+    }
+}
+
 fn push_stage(alloc: Global, out: &mut Out, program: &Program, stage: Stage) -> Result<(), Memory> {
     match stage {
         Stage::Definitions => push_definitions(alloc, out, program),
         Stage::Points => push_relation(out, points(alloc, program)),
         Stage::Passes => push_relation(out, points_by_passes(alloc, program)),
+        Stage::Both => push_both(alloc, out, program),
     }
 }
 
-/// What is printed of the program that the text writes down.
-pub fn answer(alloc: Global, text: &str, stage: Stage) -> Result<Out, Memory> {
-    let mut out = Out::new(alloc);
+/// Adds what is printed of the program that the text writes down.
+pub fn push_answer(alloc: Global, out: &mut Out, text: &str, stage: Stage) -> Result<(), Memory> {
     match read_program(alloc, text)? {
-        Some(program) => push_stage(alloc, &mut out, &program, stage)?,
-        None => out.push_str("no program\n")?,
+        Some(program) => push_stage(alloc, out, &program, stage),
+        None => out.push_str("no program\n"),
     }
-    Ok(out)
 }

@@ -1,6 +1,7 @@
 // The relation of a program, by the body that is asked for.
-ghost use Rattle.std.specs.Prelude.{IfOk};
+ghost use Rattle.std.specs.Prelude.{IfOk, IfErr};
 ghost use Rattle.argot_facts.specs.Exact.{AreDefs, ArePoints};
+ghost use Rattle.argot_points.specs.Solving.{HasFew, HasMany};
 
 use argot_facts::{Defs, Points};
 use argot_plain::Program;
@@ -24,11 +25,28 @@ pub fn points(alloc: Global, program: &Program) -> Result<Points, PointsFault>
     solve(alloc, program, &found)
 }
 
-/// The relation, found in passes.
-pub fn points_by_passes(alloc: Global, program: &Program) -> Result<Points, PointsFault> {
-    let found = definitions(alloc, program)?;
-    let mut solver = Solver::new(alloc, program, &found)?;
+/// The relation by exactly these definitions, found in passes.
+fn solve_by_passes(alloc: Global, program: &Program, defs: &Defs) -> Result<Points, PointsFault>
+    requires { AreDefs program.now defs.now }
+    ensures points { IfOk result (ArePoints program.now) }
+    ensures few { IfOk result (λ v. HasFew program.now) }
+    ensures fault { IfErr result (HasMany program.now) }
+{
+    let mut solver = match Solver::new(alloc, program, defs) {
+        Ok(solver) => solver,
+        Err(fault) => return Err(fault),
+    };
     solver.run_by_passes();
-    let points = solver.points(alloc)?;
-    Ok(points)
+    match solver.points(alloc) {
+        Ok(points) => Ok(points),
+        Err(_) => Err(PointsFault::Memory),
+    }
+}
+
+/// The relation, found in passes.
+pub fn points_by_passes(alloc: Global, program: &Program) -> Result<Points, PointsFault>
+    ensures { IfOk result (ArePoints program.now) }
+{
+    let found = definitions(alloc, program)?;
+    solve_by_passes(alloc, program, &found)
 }
