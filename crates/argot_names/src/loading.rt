@@ -29,12 +29,7 @@ pub struct Names {
 }
 
 // The declarations and the uses of names of packages in which no name is declared again.
-fn listed(
-    alloc: Global,
-    trees: &[Tree],
-    reached: &Reached,
-    tops: &Tops,
-) -> Result<Names, Memory>
+fn listed(alloc: Global, trees: &[Tree], reached: &Reached, tops: &Tops) -> Result<Names, Memory>
     requires { (h : Handed) × (main : List ℕ) × AreTops h main reached.now tops.now }
     ensures { (h : Handed) (main : List ℕ) → h.trees ≡ trees.now → AreTops h main reached.now tops.now → IsResolved h main → IfOk result (AreNames h (homes_of h reached.now)) }
 {
