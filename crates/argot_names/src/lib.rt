@@ -10,7 +10,6 @@ mod library;
 mod loading;
 mod resolving;
 mod sound;
-mod stand_in;
 mod texts;
 
 pub use argot_naming::{Feature, Flag, NameFault};

@@ -10,11 +10,11 @@ ghost use Rattle.argot_tops.specs.Tops.{AreTops};
 ghost use Rattle.argot_names.specs.Names.{AreNames};
 
 use crate::sound::sound_tops;
-use crate::stand_in::uses_of;
 use argot_decls::decls_of;
 use argot_naming::NameFault;
 use argot_reached::Reached;
 use argot_reaching::reach;
+use argot_standing::uses_of;
 use argot_text::{Memory, Sequence, Sources};
 use argot_tops::Tops;
 use argot_tree::{Lexed, Tree};

@@ -3,7 +3,7 @@ ghost use Rattle.std.specs.Prelude.{ℕ, List};
 ghost use Rattle.argot_naming.specs.Agreeing.{Agrees, HasLibrary};
 ghost use Rattle.argot_packages.specs.Reads.{handed};
 
-use crate::folder::written;
+use crate::folder::folder_in;
 use crate::lines::{push_counts, push_lines, push_nodes};
 use crate::words::Asked;
 use argot_names::{NameFault, load};
@@ -64,7 +64,7 @@ fn push_loaded(alloc: Global, out: &mut Out, folder: &Folder, asked: Asked) -> R
 /// What is printed of a folder that is written down as a text.
 pub fn answer(alloc: Global, text: &str, asked: Asked) -> Result<Out, Memory> {
     let mut out = Out::new(alloc);
-    let folder = written(alloc, text)?;
+    let folder = folder_in(alloc, text)?;
     match folder_of_texts(alloc, &folder.files, folder.module, None) {
         Ok(Some(folder)) => match asked {
             Asked::Parse => push_nodes(&mut out, &folder)?,

@@ -10,7 +10,7 @@ pub struct Written<'t> {
 }
 
 /// The folder of a text; what stands behind no path is passed over.
-pub fn written(alloc: Global, text: &str) -> Result<Written<'_>, Memory> {
+pub fn folder_in(alloc: Global, text: &str) -> Result<Written<'_>, Memory> {
     let mut parts = text.split("\n-- ");
     let module = parts.next().unwrap_or("");
     let mut files = Vec::new(alloc);

@@ -1,7 +1,7 @@
 //! A window for maintainers: prints the packages of a folder that is written down as one text, their declarations, and what
 //! each name stands for.
 //!
-//! It reads `folder.txt` in the folder where it runs. Its first line is the module's path, which may be empty; then come the
+//! It reads the file that is named, or `folder.txt`, in the folder where it runs. Its first line is the module's path, which may be empty; then come the
 //! files, each behind a line `-- PATH --`, in byte order of their paths. `lines.rt` has the form of what is printed; with the
 //! word `-count` it is how many packages, declarations and uses there are, and with `-parse` how many nodes the trees of the
 //! folder and of the library have, and nothing is resolved.
@@ -14,7 +14,7 @@ mod places;
 mod words;
 
 use crate::answer::answer;
-use crate::words::asked;
+use crate::words::read_words;
 use argot_text::Memory;
 use std::io::Write;
 use std::{fs, io};
@@ -25,9 +25,13 @@ mod tests;
 mod texts;
 
 fn main(rt: HostRuntime) -> io::Result<()> {
-    let asked = asked(&rt)?;
-    let text = fs::read_to_string(&rt, "folder.txt")?;
-    match answer(rt.alloc(), text.as_str(), asked) {
+    let words = read_words(&rt)?;
+    let path = match &words.file {
+        Some(file) => file.as_str(),
+        None => "folder.txt",
+    };
+    let text = fs::read_to_string(&rt, path)?;
+    match answer(rt.alloc(), text.as_str(), words.asked) {
         Ok(out) => rt.stdout().write_all(out.bytes()),
         Err(Memory) => rt.stdout().write_all(b"out of memory\n"),
     }

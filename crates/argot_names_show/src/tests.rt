@@ -9,7 +9,8 @@ fn each_name_stands_for_its_declaration(rt: HostRuntime) -> Result<(), Fail> {
     for n in 0..CASES {
         let (folder, wanted) = case(n);
         let out = answer(rt.alloc(), folder, Asked::Lines)?;
-        assert!(rt; out.bytes() == wanted.as_bytes(), "case {n}");
+        let told = std::str::from_utf8(out.bytes()).unwrap_or("");
+        assert_eq!(rt; told, wanted, "case {n}");
     }
     Ok(())
 }

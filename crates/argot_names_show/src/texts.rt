@@ -1,5 +1,5 @@
 // Folders, and what is printed of them. What a line says of a name is what the rules of scope of the specification say of it;
-// the order of packages but the first is that of the search through imports.
+// the order of packages but the first is left open there, and stands here as it is.
 
 /// A name that is assigned, one that is shadowed, parameters and results.
 const LOCALS: &str = "m
@@ -11,17 +11,17 @@ package main
 var x = 1
 
 func f(p int) (r int) {
-	x := p
-	x, y := x+1, 2
-	{
-		x := y
-		r = x
-	}
-	return x
+\tx := p
+\tx, y := x+1, 2
+\t{
+\t\tx := y
+\t\tr = x
+\t}
+\treturn x
 }
 
 func main() {
-	_ = f(x)
+\t_ = f(x)
 }
 ";
 
@@ -61,15 +61,15 @@ module m
 package main
 
 import (
-	\"os\"
-	b \"m/a\"
-	\"x/y\"
+\t\"os\"
+\tb \"m/a\"
+\t\"x/y\"
 )
 
 func main() {
-	var t b.T
-	os.Exit(y.N)
-	_ = b.F(t)
+\tvar t b.T
+\tos.Exit(y.N)
+\t_ = b.F(t)
 }
 -- stubs/x/y/y.go --
 package y
@@ -78,9 +78,9 @@ var N = 0
 ";
 
 const PACKAGES_LINES: &str = "package m main main.go
-package os os stub:os
-package m/a alpha a/a.go
 package x/y y stubs/x/y/y.go
+package m/a alpha a/a.go
+package os os stub:os
 package errors errors stub:errors
 declaration 2 a/a.go:3:6 T
 declaration 2 a/a.go:5:6 F
@@ -90,7 +90,7 @@ declaration 0 main.go:5:2 b
 declaration 0 main.go:6:2 y
 declaration 0 main.go:9:6 main
 declaration 0 main.go:10:6 t
-declaration 3 stubs/x/y/y.go:3:5 N
+declaration 1 stubs/x/y/y.go:3:5 N
 use a/a.go:3:8 int -
 use a/a.go:5:10 T a/a.go:3:6
 use a/a.go:5:13 T a/a.go:3:6
@@ -113,20 +113,20 @@ package main
 type T struct{ a int }
 
 func (r T) M(x interface{}) int {
-	switch v := x.(type) {
-	case int:
-		return v
-	case T:
-		return v.a
-	}
-	return r.a
+\tswitch v := x.(type) {
+\tcase int:
+\t\treturn v
+\tcase T:
+\t\treturn v.a
+\t}
+\treturn r.a
 }
 
 func init() {}
 
 func main() {
-	var T = T{a: 1}
-	_ = T.M(2)
+\tvar T = T{a: 1}
+\t_ = T.M(2)
 }
 ";
 
@@ -158,19 +158,19 @@ const LOOPS: &str = "
 package main
 
 func main() {
-	c := make(chan []string, 1)
-	select {
-	case x, ok := <-c:
-		for i, s := range x {
-			_, _, _ = i, s, ok
-		}
-	default:
-	}
-	for c := range c {
-		_ = c
-	}
-	f := func(n int) int { return n }
-	_ = f
+\tc := make(chan []string, 1)
+\tselect {
+\tcase x, ok := <-c:
+\t\tfor i, s := range x {
+\t\t\t_, _, _ = i, s, ok
+\t\t}
+\tdefault:
+\t}
+\tfor c := range c {
+\t\t_ = c
+\t}
+\tf := func(n int) int { return n }
+\t_ = f
 }
 ";
 
@@ -211,14 +211,14 @@ const len = k.A
 package k
 
 const (
-	A = iota
-	B
+\tA = iota
+\tB
 )
 -- main.go --
 package main
 
 func main() {
-	println(len, k2)
+\tprintln(len, k2)
 }
 
 var k2 = len
@@ -247,7 +247,7 @@ const UNKNOWN: &str = "
 package main
 
 func main() {
-	y = 1
+\ty = 1
 }
 ";
 
