@@ -28,7 +28,7 @@ pub fn note_file(
 }
 
 /// The spots as a list, in their order.
-fn listed(alloc: Global, spots: &BTreeSet<Spot>) -> Result<Vec<Spot>, Memory>
+pub fn listed(alloc: Global, spots: &BTreeSet<Spot>) -> Result<Vec<Spot>, Memory>
     ensures items { IfOk result (λ v. v.items ≡ spots.now.keys) }
     ensures ordered { IfOk result (λ v. IsOrdered IsSpotBefore v.items) }
 {

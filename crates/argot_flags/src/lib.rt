@@ -20,7 +20,7 @@ mod standings;
 mod tables;
 mod view;
 
-pub use files::{note_file, spots_of};
+pub use files::{listed, note_file, spots_of};
 pub use parts::Part;
 pub use spots::{Spot, note, rank_of};
 pub use standings::{Standings, standings_of};

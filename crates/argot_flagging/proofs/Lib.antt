@@ -1,0 +1,13 @@
+pub mod Slicing
+pub mod NodesThere
+pub mod Features
+pub mod Bridging
+pub mod Views
+pub mod Othering
+pub mod Noting
+pub mod Pathing
+pub mod Packaging
+pub mod Foldering
+pub mod Marking
+pub mod Forming
+pub mod Whole

@@ -1,0 +1,21 @@
+use Rattle.std.proofs.Common.{◌≡◌, sym, subst}
+use Rattle.argot_naming.specs.Loaded.{count_nodes}
+use Rattle.argot_reached.specs.Reached.{homes_of}
+use Rattle.argot_decls.specs.Bases.{AreBases}
+use Rattle.argot_decls.specs.Tables.{AreDeclNumbers}
+use Rattle.argot_standing.specs.Known.{AreKnown}
+use Rattle.argot_standing.specs.Tables.{IsTable}
+use Rattle.argot_standing.proofs.uses.uses_of.Goals as goal
+
+pub returns : goal.returns
+returns c h main same tops decls once =
+    let bases : AreBases h.trees c.in_ok-bases.bases.items = subst (λ ts. AreBases ts c.in_ok-bases.bases.items) (sym same) c.in_ok-bases.ensures in
+    let count : c.node_count-count.result ≡ count_nodes h.trees = c.node_count-count.ensures h.trees (subst (AreBases h.trees) (sym c.deref.ensures.value) bases) in
+    let known : AreKnown h main c.args.decls.now (record { bases = c.as_slice.result; numbers = c.as_slice-2.result; reached = c.args.reached; tops = c.args.tops }) = record {
+      tops_are = tops;
+      decls_are = decls;
+      bases_are = subst (AreBases h.trees) (sym c.as_slice.ensures.value) bases;
+      numbers_are = subst (AreDeclNumbers c.args.decls.now (count_nodes h.trees)) (sym c.as_slice-2.ensures.value) (subst (λ k. AreDeclNumbers c.args.decls.now k c.in_ok-numbers.numbers.items) count c.in_ok-numbers.ensures);
+    } in
+    let table = c.in_ok-table.ensures h main c.args.decls.now known count in
+    c.listed.ensures h (homes_of h c.args.reached.now) c.args.decls.now (subst (IsTable h (homes_of h c.args.reached.now) c.args.decls.now c.node_count-count.result) (sym c.deref-2.ensures.value) table)

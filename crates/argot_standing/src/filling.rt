@@ -1,0 +1,159 @@
+// The uses of one file go into the table.
+ghost use Rattle.std.specs.Prelude.{◌≡◌, ◌+◌, ◌<◌, ℕ, List, Some, length, slice_get};
+ghost use Rattle.argot_typed.specs.declared.program.Decl.{Decl};
+ghost use Rattle.argot_naming.specs.declared.home.Home.{Home};
+ghost use Rattle.argot_naming.specs.Handed.{Handed};
+ghost use Rattle.argot_scopes.specs.Names.{AreNames};
+ghost use Rattle.argot_standing.specs.Known.{IsHere};
+ghost use Rattle.argot_standing.specs.Tables.{IsFilled, FilesBefore, Seen};
+
+use crate::assigned::assigned_number;
+use crate::known::Known;
+use crate::lone::lone_number;
+use crate::members::member_number;
+use crate::table::put;
+use argot_bindings::{Brought, Dotted, Looked};
+use argot_decls::node_number;
+use argot_scopes::FileNames;
+
+// Name k.
+fn looked_at(looked: &[Looked], k: usize) -> Looked
+    requires { k < length looked.now }
+    ensures { slice_get looked.now k ≡ Some result }
+{
+    looked[k]
+}
+
+// Member k.
+fn dotted_at(dotted: &[Dotted], k: usize) -> Dotted
+    requires { k < length dotted.now }
+    ensures { slice_get dotted.now k ≡ Some result }
+{
+    dotted[k]
+}
+
+// Name k that comes into a block.
+fn brought_at(brought: &[Brought], k: usize) -> Brought
+    requires { k < length brought.now }
+    ensures { slice_get brought.now k ≡ Some result }
+{
+    brought[k]
+}
+
+// Puts down what lone name k stands for.
+fn fill_lone(
+    known: &Known,
+    names: &FileNames,
+    package: u32,
+    file: u32,
+    k: usize,
+    table: &mut Vec<Option<u32>>,
+)
+    requires names { AreNames names.now }
+    requires item { k < length names.now.bindings.looked.items }
+    ensures { (h : Handed) (main : List ℕ) (home : Home) (decls : List Decl) → IsHere h main home decls known.now names.now «package» file → IsFilled h known.now.reached.now decls (Seen names.now file k 0 0) table.old.items → IsFilled h known.now.reached.now decls (Seen names.now file (k + 1) 0 0) table.new.items }
+{
+    let looked = looked_at(&names.bindings.looked, k);
+    let decl = lone_number(known, names, package, file, looked);
+    put(table, node_number(known.bases, file, looked.node), decl);
+}
+
+// Puts down what member k stands for.
+fn fill_member(
+    known: &Known,
+    names: &FileNames,
+    package: u32,
+    file: u32,
+    k: usize,
+    table: &mut Vec<Option<u32>>,
+)
+    requires names { AreNames names.now }
+    requires item { k < length names.now.bindings.dotted.items }
+    ensures { (h : Handed) (main : List ℕ) (home : Home) (decls : List Decl) (lone : ℕ) → IsHere h main home decls known.now names.now «package» file → IsFilled h known.now.reached.now decls (Seen names.now file lone k 0) table.old.items → IsFilled h known.now.reached.now decls (Seen names.now file lone (k + 1) 0) table.new.items }
+{
+    let dotted = dotted_at(&names.bindings.dotted, k);
+    let decl = member_number(known, names, package, file, dotted);
+    put(table, node_number(known.bases, file, dotted.node), decl);
+}
+
+// Puts down what name k that comes into a block stands for, where it is assigned to.
+fn fill_assigned(
+    known: &Known,
+    names: &FileNames,
+    package: u32,
+    file: u32,
+    k: usize,
+    table: &mut Vec<Option<u32>>,
+)
+    requires names { AreNames names.now }
+    requires item { k < length names.now.bindings.brought.items }
+    ensures { (h : Handed) (main : List ℕ) (home : Home) (decls : List Decl) (lone members : ℕ) → IsHere h main home decls known.now names.now «package» file → IsFilled h known.now.reached.now decls (Seen names.now file lone members k) table.old.items → IsFilled h known.now.reached.now decls (Seen names.now file lone members (k + 1)) table.new.items }
+{
+    let brought = brought_at(&names.bindings.brought, k);
+    let decl = assigned_number(known, names, package, file, brought);
+    put(table, node_number(known.bases, file, brought.node), decl);
+}
+
+// All lone names of a file.
+fn fill_lones(
+    known: &Known,
+    names: &FileNames,
+    package: u32,
+    file: u32,
+    table: &mut Vec<Option<u32>>,
+)
+    requires names { AreNames names.now }
+    ensures { (h : Handed) (main : List ℕ) (home : Home) (decls : List Decl) → IsHere h main home decls known.now names.now «package» file → IsFilled h known.now.reached.now decls (Seen names.now file 0 0 0) table.old.items → IsFilled h known.now.reached.now decls (Seen names.now file (length names.now.bindings.looked.items) 0 0) table.new.items }
+{
+    for k in 0..names.bindings.looked.len() {
+        fill_lone(known, names, package, file, k, table);
+    }
+}
+
+// All members in a file.
+fn fill_members(
+    known: &Known,
+    names: &FileNames,
+    package: u32,
+    file: u32,
+    table: &mut Vec<Option<u32>>,
+)
+    requires names { AreNames names.now }
+    ensures { (h : Handed) (main : List ℕ) (home : Home) (decls : List Decl) (lone : ℕ) → IsHere h main home decls known.now names.now «package» file → IsFilled h known.now.reached.now decls (Seen names.now file lone 0 0) table.old.items → IsFilled h known.now.reached.now decls (Seen names.now file lone (length names.now.bindings.dotted.items) 0) table.new.items }
+{
+    for k in 0..names.bindings.dotted.len() {
+        fill_member(known, names, package, file, k, table);
+    }
+}
+
+// All names of a file that are assigned to.
+fn fill_all_assigned(
+    known: &Known,
+    names: &FileNames,
+    package: u32,
+    file: u32,
+    table: &mut Vec<Option<u32>>,
+)
+    requires names { AreNames names.now }
+    ensures { (h : Handed) (main : List ℕ) (home : Home) (decls : List Decl) (lone members : ℕ) → IsHere h main home decls known.now names.now «package» file → IsFilled h known.now.reached.now decls (Seen names.now file lone members 0) table.old.items → IsFilled h known.now.reached.now decls (Seen names.now file lone members (length names.now.bindings.brought.items)) table.new.items }
+{
+    for k in 0..names.bindings.brought.len() {
+        fill_assigned(known, names, package, file, k, table);
+    }
+}
+
+/// Puts down what the nodes of a file stand for. The file is one of the package of that number. No memory.
+pub fn fill_names(
+    known: &Known,
+    names: &FileNames,
+    package: u32,
+    file: u32,
+    table: &mut Vec<Option<u32>>,
+)
+    requires names { AreNames names.now }
+    ensures { (h : Handed) (main : List ℕ) (home : Home) (decls : List Decl) → IsHere h main home decls known.now names.now «package» file → IsFilled h known.now.reached.now decls (FilesBefore file) table.old.items → IsFilled h known.now.reached.now decls (FilesBefore (file + 1)) table.new.items }
+{
+    fill_lones(known, names, package, file, table);
+    fill_members(known, names, package, file, table);
+    fill_all_assigned(known, names, package, file, table);
+}
