@@ -1,6 +1,5 @@
 -- What a survey says of the library's texts is what the definitions say.
-use Rattle.std.proofs.Common.{◌≡◌, ℕ, ◌<◌, List, [], ◌∷◌, Bool, true, false, Option, Some, None, refl, sym, ap, ◌∙◌, subst, arith}
-use Rattle.std.specs.Prelude.{slice_get, codes}
+use Rattle.std.proofs.Common.{◌≡◌, ℕ, List, [], true, Some, refl, sym, ap, subst, arith}
 use Rattle.argot_stubs.specs.Stubs.{HasStub, errors, fmt, os, exec, strings, log, strconv, sync}
 use Rattle.argot_naming.specs.declared.home.Home.{Home}
 use Rattle.argot_naming.specs.declared.home.Home.TheVariants as homes
@@ -19,7 +18,7 @@ use Rattle.argot_packages.proofs.Lists.{list_none, list_same, get_below, get_the
 use Rattle.argot_packages.proofs.Surveys.{owned, one_owner, first_owned, file_owned, finds_one}
 use Rattle.argot_packages.proofs.Reached.{reached_proper}
 use Rattle.argot_names.specs.Paths.{library_paths}
-use Rattle.argot_names.specs.Naming.{is_library, NamesAt, IsNamedPath}
+use Rattle.argot_names.specs.Naming.{is_library, IsNamedPath}
 
 library_finds : (h : Handed) (path : List ℕ) (f : Found) → IsFound h path f → is_library f ≡ true → Finds h path (homes.Library path)
 library_finds h path _ (found_folder finds first) e = absurd (cc)

@@ -1,8 +1,8 @@
 -- The paths of the library are in order.
-use Rattle.std.proofs.Common.{◌≡◌, ℕ, zero, suc, ◌+◌, ◌<◌, ◌⊎◌, inl, inr, List, [], ◌∷◌, ◌++◌, Bool, true, false, Some, refl, sym, ap, ◌∙◌, subst, arith}
+use Rattle.std.proofs.Common.{◌≡◌, ℕ, zero, suc, ◌+◌, ◌<◌, inl, inr, List, [], ◌∷◌, ◌++◌, Bool, true, false, Some, refl, sym, ap, ◌∙◌, subst, arith}
 use Rattle.std.specs.Prelude.{slice_get, if◌then◌else◌}
 use Rattle.std.proofs.lemmas.Bool.{cases_eq}
-use Rattle.argot_naming.specs.Lists.{In, IsListOf}
+use Rattle.argot_naming.specs.Lists.{IsListOf}
 use Rattle.argot_naming.specs.Agreeing.{PathBefore}
 use Rattle.argot_packages.specs.declared.survey.Survey.{Survey}
 use Rattle.argot_packages.proofs.Lists.{list_none, list_same, list_more, get_below}

@@ -1,9 +1,9 @@
-// What `resolve` answers for small folders: each fault of names, and each rule of blocks and scopes.
+// What `resolve` and `load` answer for small folders: each fault of names, and each rule of blocks and scopes.
 ghost use Rattle.std.specs.Prelude.{ℕ, List};
 ghost use Rattle.argot_naming.specs.Agreeing.{Agrees, HasLibrary};
 ghost use Rattle.argot_packages.specs.Reads.{handed};
 
-use crate::{NameFault, resolve};
+use crate::{NameFault, load, resolve};
 use argot_reading::{Folder, folder_of_texts};
 use argot_text::{Pos, Texts};
 use std::alloc::Global;
@@ -137,14 +137,38 @@ fn line_of(alloc: Global, paths: &Texts, fault: &NameFault) -> Result<String, Fa
     Ok(line)
 }
 
-// What is told of a folder.
-fn told_of(alloc: Global, folder: &Folder) -> Result<String, Fail>
+// What `resolve` tells of a folder.
+fn resolved(alloc: Global, folder: &Folder) -> Result<String, Fail>
     requires agrees { Agrees (handed folder.now.sources folder.now.lexed.items folder.now.trees.items) }
     requires library { (main : List ℕ) → HasLibrary (handed folder.now.sources folder.now.lexed.items folder.now.trees.items) main }
 {
     match resolve(alloc, &folder.sources, &folder.lexed, &folder.trees, "") {
         Ok(()) => Ok(String::from_str(alloc, "named")?),
         Err(fault) => line_of(alloc, &folder.sources.paths, &fault),
+    }
+}
+
+// What `load` tells of it.
+fn loaded(alloc: Global, folder: &Folder) -> Result<String, Fail>
+    requires agrees { Agrees (handed folder.now.sources folder.now.lexed.items folder.now.trees.items) }
+    requires library { (main : List ℕ) → HasLibrary (handed folder.now.sources folder.now.lexed.items folder.now.trees.items) main }
+{
+    match load(alloc, &folder.sources, &folder.lexed, &folder.trees, "") {
+        Ok(_) => Ok(String::from_str(alloc, "named")?),
+        Err(fault) => line_of(alloc, &folder.sources.paths, &fault),
+    }
+}
+
+// What both tell.
+fn told_of(alloc: Global, folder: &Folder) -> Result<String, Fail>
+    requires agrees { Agrees (handed folder.now.sources folder.now.lexed.items folder.now.trees.items) }
+    requires library { (main : List ℕ) → HasLibrary (handed folder.now.sources folder.now.lexed.items folder.now.trees.items) main }
+{
+    let told = resolved(alloc, folder)?;
+    if loaded(alloc, folder)?.as_str() == told.as_str() {
+        Ok(told)
+    } else {
+        Ok(String::from_str(alloc, "resolve and load differ")?)
     }
 }
 

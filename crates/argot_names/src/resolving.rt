@@ -4,11 +4,10 @@ ghost use Rattle.argot_naming.specs.Agreeing.{Agrees, HasLibrary};
 ghost use Rattle.argot_naming.specs.Faults.{Refuses, IsResolved};
 ghost use Rattle.argot_packages.specs.Reads.{handed};
 
-use crate::checks::check_scopes;
+use crate::sound::sound_tops;
 use argot_naming::NameFault;
 use argot_reaching::reach;
 use argot_text::Sources;
-use argot_tops::tops_of;
 use argot_tree::{Lexed, Tree};
 use std::alloc::Global;
 
@@ -29,9 +28,9 @@ fn resolve_in(
         Ok(reached) => reached,
         Err(fault) => return Err(fault),
     };
-    match tops_of(alloc, sources, lexed, trees, &reached) {
-        Ok(tops) => check_scopes(alloc, sources, &reached, &tops),
-        Err(_) => Err(NameFault::Memory),
+    match sound_tops(alloc, sources, lexed, trees, &reached) {
+        Ok(_) => Ok(()),
+        Err(fault) => Err(fault),
     }
 }
 

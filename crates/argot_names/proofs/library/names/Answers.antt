@@ -1,4 +1,4 @@
-use Rattle.std.proofs.Common.{◌≡◌, arith, subst, sym, inl, inr}
+use Rattle.std.proofs.Common.{arith, subst, inl, inr}
 use Rattle.std.proofs.lemmas.Bool.{cases_eq}
 use Rattle.argot_packages.proofs.Lists.{get_below}
 use Rattle.argot_names.specs.Naming.{NamesAt}

@@ -1,4 +1,4 @@
-use Rattle.std.proofs.Common.{◌≡◌, ℕ, arith, subst, sym, rules}
+use Rattle.std.proofs.Common.{◌≡◌, arith, subst, sym}
 use Rattle.argot_names.specs.Naming.{NamesAt}
 use Rattle.argot_names.proofs.Ordered.{AreNamedBelow, named_none, named_more, named_all}
 use Rattle.argot_names.proofs.texts.list_named.Goals as goal

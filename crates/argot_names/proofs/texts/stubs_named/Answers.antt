@@ -1,4 +1,4 @@
-use Rattle.std.proofs.Common.{◌≡◌, ◌∙◌, [], subst, sym, ap}
+use Rattle.std.proofs.Common.{subst, sym}
 use Rattle.std.specs.Prelude.{IfSome, IfNone}
 use Rattle.argot_naming.specs.Homes.{IsFolder}
 use Rattle.argot_naming.specs.Library.{AreNamed}
