@@ -1,5 +1,5 @@
 // The rules of each instruction.
-ghost use Rattle.std.specs.Prelude.{◌≡◌, true, ◌+◌, ◌-◌, ◌<◌, ◌≤◌, ◌^◌, ◌++◌, ◌∷◌, [], Some, None, length, drop, slice_get, ◌==◌, if◌then◌else◌, OnOk, IfOk};
+ghost use Rattle.std.specs.Prelude.{◌≡◌, true, ◌+◌, ◌-◌, ◌<◌, ◌≤◌, ◌^◌, ◌++◌, ◌∷◌, [], Some, None, length, drop, slice_get, ◌==◌, if◌then◌else◌, OnOk, IfOk, IfErr};
 ghost use Rattle.argot_plain.specs.Code.{handed_values};
 ghost use Rattle.argot_plain.specs.WellFormed.{WellFormed};
 ghost use Rattle.argot_facts.specs.Numbers.{node, leaves_of, own_site, shape_at};
@@ -63,7 +63,8 @@ impl<'a> At<'a> {
 /// The node of the reference by which a call goes, where so many results stand before the handed values. Err is want of
 /// memory, where a number doesn't fit.
 pub fn reference(place: u32, callee: &Callee, args: &[u32], behind: u32) -> Result<Node, Memory>
-    ensures { IfOk result (λ n. n ≡ reference place callee.now args.now behind) }
+    ensures node { IfOk result (λ n. n ≡ reference place callee.now args.now behind) }
+    ensures large { IfErr result (λ e. 2 ^ 32 ≤ behind + length args.now) }
 {
     let index = match callee {
         Callee::Static(_) => behind,

@@ -86,7 +86,8 @@ fn node_registers(alloc: Global, kind: &Kind) -> Result<Vec<u32>, Memory>
 
 /// The number as one that fits a node; for more there is no memory anyway.
 pub(crate) fn small(number: usize) -> Result<u32, Memory>
-    ensures { IfOk result (λ n. n ≡ number) }
+    ensures same { IfOk result (λ n. n ≡ number) }
+    ensures large { IfErr result (λ e. 2 ^ 32 ≤ number) }
 {
     if number > u32::MAX as usize {
         return Err(Memory);

@@ -18,7 +18,7 @@ returns-clause-listed c =
     let i = c.args.place in
     let call = c.args.calling.now in
     let marks = c.mark_targets.new.marks in
-    let e : c.in_ok-by.by ≡ reference i call.callee.now call.args.now call.behind = c.in_ok-by.ensures in
+    let e : c.in_ok-by.by ≡ reference i call.callee.now call.args.now call.behind = c.in_ok-by.ensures.node in
     subst (λ xs. AreListed s t (i + 1) xs) (sym c.in_ok-push_marks.ensures.pairs)
     (listed_call s t i c.args.found.now.items (row marks 0) call.callee.now call.args.now call.behind c.requires.listed c.in_ok-push_marks.ensures.ascending c.requires.call c.requires.only c.requires.live
     (λ g takes aimed. has_row marks 0 g (c.mark_targets.ensures.there g takes (subst (λ b. Aimed s (Refers t) i b g takes) (sym e) aimed)))
