@@ -125,10 +125,10 @@ fn note_tree(
 }
 
 /// Adds what is left out in a file of a package. `path` is the import path of the package, where that is a folder.
-pub fn note_source<'a>(
+pub fn note_source<'a, 'e>(
     alloc: Global,
     spots: &mut BTreeSet<Spot>,
-    known: &Known<'a>,
+    known: &Known<'a, 'e>,
     file: u32,
     path: Option<&'a [u8]>,
 ) -> Result<(), Memory>

@@ -18,7 +18,7 @@ use crate::known::Known;
 use crate::others::note_others;
 use crate::packages::note_packages;
 use crate::positions::flags_of;
-use argot_flags::{Spot, Standings, bases_of, listed, standings_of, types_of};
+use argot_flags::{Spot, Standings, bases_of, entry_table, listed, standings_of, types_of};
 use argot_naming::Flag;
 use argot_text::{Memory, Sources};
 use argot_tree::{Entries, Entry, Lexed, Tree};
@@ -69,11 +69,12 @@ fn flags_in(
 {
     let bases = bases_of(alloc, trees)?;
     let standings = standings_in(alloc, packages, trees)?;
+    let table = entry_table(alloc, entries)?;
     let known = Known {
         sources,
         lexed,
         trees,
-        entries,
+        entries: &table,
         bases: bases.as_slice(),
         named: standings.named.as_slice(),
         typed: standings.typed.as_slice(),

@@ -1,16 +1,17 @@
 // What is known before files are looked through.
+use argot_flags::EntryTable;
 use argot_naming::Feature;
 use argot_text::Sources;
-use argot_tree::{Entry, Lexed, Tree};
+use argot_tree::{Lexed, Tree};
 
 /// What is handed over, with the number of each file's first node, and for each node of all trees the feature that its name
 /// stands for and whether it stands for a type.
 #[derive(Clone, Copy)]
-pub struct Known<'a> {
+pub struct Known<'a, 'e> {
     pub sources: &'a Sources,
     pub lexed: &'a [Lexed],
     pub trees: &'a [Tree],
-    pub entries: &'a [Entry],
+    pub entries: &'a EntryTable<'e>,
     pub bases: &'a [usize],
     pub named: &'a [Option<Feature>],
     pub typed: &'a [bool],

@@ -4,8 +4,7 @@
 //! and the order of features, with lines and columns. What a name stands for is known by the uses of the program (`IsLoaded`),
 //! made into tables by node; each file of a package is looked through once with its part of them (`IsInside`), and then each
 //! path, for assembly files in the packages' folders and the `go` line of the module (`IsOther`). All is linear in the files
-//! but for the entries, which are looked through for each function without a body, for hashing, and for the order of what is
-//! found.
+//! and entries but for hashing and for the order of what is found.
 #![tactic(auto)]
 
 mod file;

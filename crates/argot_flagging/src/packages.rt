@@ -56,10 +56,10 @@ fn file_at(files: &[u32], k: usize) -> u32
 }
 
 /// Adds what is left out in the files of a package.
-fn note_package<'a>(
+fn note_package<'a, 'e>(
     alloc: Global,
     spots: &mut BTreeSet<Spot>,
-    known: &Known<'a>,
+    known: &Known<'a, 'e>,
     package: &'a Package,
 ) -> Result<(), Memory>
     requires { IsKnown known.now }
@@ -83,10 +83,10 @@ pub fn package_at(packages: &[Package], k: usize) -> &Package
 }
 
 /// Adds what is left out in the files of all packages.
-pub fn note_packages<'a>(
+pub fn note_packages<'a, 'e>(
     alloc: Global,
     spots: &mut BTreeSet<Spot>,
-    known: &Known<'a>,
+    known: &Known<'a, 'e>,
     packages: &'a [Package],
 ) -> Result<(), Memory>
     requires { IsKnown known.now }

@@ -10,3 +10,4 @@ pub mod Commenting
 pub mod Counting
 pub mod Gathering
 pub mod Standing
+pub mod Entering

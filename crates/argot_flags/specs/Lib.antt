@@ -6,3 +6,4 @@ pub mod Parts
 pub mod Files
 pub mod Tables
 pub mod Standings
+pub mod Entries

@@ -2,7 +2,7 @@
 ghost use Rattle.std.specs.Prelude.{◌≡◌, ◌↔◌, ◌<◌, IsTrue, ℕ, Some, true, false, length, slice_get};
 ghost use Rattle.argot_tree.specs.declared.node_kind.NodeKind.TheVariants.{TypeName};
 ghost use Rattle.argot_naming.specs.Nodes.{IsFirstChild, IsNext, IsChild, is_params};
-ghost use Rattle.argot_naming.specs.Flags.{wraps_receiver, HasType, HasEntry};
+ghost use Rattle.argot_naming.specs.Flags.{wraps_receiver, HasType};
 ghost use Rattle.argot_bindings.specs.Links.{IsLinked};
 ghost use Rattle.argot_bindings.specs.Parents.{AreParents};
 ghost use Rattle.argot_bindings.specs.Keys.{AreKeys};
@@ -10,13 +10,14 @@ ghost use Rattle.argot_bindings.specs.Marks.{AreMarks};
 ghost use Rattle.argot_bindings.specs.declared.marks.Wanted.TheVariants.{Parameters};
 ghost use Rattle.argot_flags.specs.Exact.{IsExact};
 ghost use Rattle.argot_flags.specs.Parts.{IsBodilessAbove, IsDeclaredAt, IsBodiless};
-ghost use Rattle.argot_flags.specs.Receivers.{IsEntry, IsListType, IsBase, IsWithout, HasWithout, LacksEntry, file_of};
+ghost use Rattle.argot_flags.specs.Receivers.{IsListType, IsBase, IsWithout, HasWithout, LacksEntry, file_of};
 
+use crate::entries::{EntryTable, has_entry};
 use crate::links::parent_of;
 use crate::parts::Part;
 use argot_naming::Feature;
 use argot_packages::{node_at, spelled_at};
-use argot_tree::{Entry, NodeKind, Token, TreeNode};
+use argot_tree::{NodeKind, Token, TreeNode};
 
 /// Whether a node of this kind is a list of parameters.
 fn is_params(kind: NodeKind) -> bool
@@ -102,36 +103,6 @@ fn list_type(nodes: &[TreeNode], list: usize) -> Option<usize>
     }
 }
 
-/// Whether the entry stands for the function of this name, of the receiver's type and the package's path.
-fn is_entry(entry: &Entry, path: &[u8], receiver: &[u8], name: &[u8]) -> bool
-    ensures { IsTrue result ↔ IsEntry entry.now path.now receiver.now name.now }
-{
-    entry.package.as_str().as_bytes() == path
-        && entry.receiver.as_str().as_bytes() == receiver
-        && entry.name.as_str().as_bytes() == name
-}
-
-/// Entry k.
-fn entry_at(entries: &[Entry], k: usize) -> &Entry
-    requires { k < length entries.now }
-    ensures { slice_get entries.now k ≡ Some result.now }
-{
-    &entries[k]
-}
-
-/// Whether there is an entry for the function of this name, of the receiver's type and the package's path.
-fn has_entry(entries: &[Entry], path: &[u8], receiver: &[u8], name: &[u8]) -> bool
-    ensures yes { result ≡ true → HasEntry entries.now path.now receiver.now name.now }
-    ensures no { result ≡ false → HasEntry entries.now path.now receiver.now name.now → ⊥ }
-{
-    for k in 0..entries.len() {
-        if is_entry(entry_at(entries, k), path, receiver, name) {
-            return true;
-        }
-    }
-    false
-}
-
 /// The token of a type's name, parentheses and stars left out.
 fn base_of(nodes: &[TreeNode], type_: usize) -> Option<u32>
     requires { IsLinked nodes.now }
@@ -158,7 +129,7 @@ fn is_without(
     bytes: &[u8],
     tokens: &[Token],
     nodes: &[TreeNode],
-    entries: &[Entry],
+    entries: &EntryTable,
     path: &[u8],
     name: &[u8],
     list: usize,
@@ -181,7 +152,7 @@ fn some_without(
     bytes: &[u8],
     tokens: &[Token],
     nodes: &[TreeNode],
-    entries: &[Entry],
+    entries: &EntryTable,
     path: &[u8],
     name: &[u8],
     decl: usize,
@@ -206,7 +177,7 @@ fn lacks_entry(
     tokens: &[Token],
     nodes: &[TreeNode],
     receivers: &[bool],
-    entries: &[Entry],
+    entries: &EntryTable,
     path: &[u8],
     name: &[u8],
     decl: usize,
@@ -285,7 +256,7 @@ pub fn bodiless_at(
     parents: &[Option<usize>],
     bodies: &[Option<usize>],
     receivers: &[bool],
-    entries: &[Entry],
+    entries: &EntryTable,
     path: &[u8],
     k: usize,
 ) -> Option<Part>

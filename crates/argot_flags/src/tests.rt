@@ -4,6 +4,7 @@ use std::test::Fail;
 #[test]
 fn comments_for_the_compiler(rt: HostRuntime) -> Result<(), Fail> {
     let alloc = rt.alloc();
+    let entries = entry_table(alloc, &[])?;
     let view = View {
         file: 3,
         bytes: b"//go:build x\n//go:buildy\n//go:embed\n//go:build\r\n".as_slice(),
@@ -14,7 +15,7 @@ fn comments_for_the_compiler(rt: HostRuntime) -> Result<(), Fail> {
         receivers: &[],
         named: &[],
         typed: &[],
-        entries: &[],
+        entries: &entries,
         path: None,
     };
     let spots = spots_of(alloc, &view, &[0, 13, 25, 36])?;

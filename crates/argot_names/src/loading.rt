@@ -28,10 +28,10 @@ pub struct Names {
     pub uses: Vec<Use>,
 }
 
-// The declarations and the uses of names of packages in which no name is declared again.
+// The declarations and the uses of names of packages.
 fn listed(alloc: Global, trees: &[Tree], reached: &Reached, tops: &Tops) -> Result<Names, Memory>
     requires { (h : Handed) × (main : List ℕ) × AreTops h main reached.now tops.now }
-    ensures { (h : Handed) (main : List ℕ) → h.trees ≡ trees.now → AreTops h main reached.now tops.now → IsResolved h main → IfOk result (AreNames h (homes_of h reached.now)) }
+    ensures { (h : Handed) (main : List ℕ) → h.trees ≡ trees.now → AreTops h main reached.now tops.now → IfOk result (AreNames h (homes_of h reached.now)) }
 {
     let decls = decls_of(alloc, trees, reached, tops)?;
     let uses = uses_of(alloc, trees, reached, tops, &decls)?;

@@ -14,7 +14,7 @@ struct Size {
 const MOST_LEAVES: u32 = 4_096;
 
 /// So many locations a site has at most here.
-const MOST_PATHS: u32 = 64;
+const MOST_PATHS: u32 = 256;
 
 // So many leaf paths, as `f0,f1,f2`.
 fn leaves(alloc: Global, count: u32) -> Result<String, Memory> {

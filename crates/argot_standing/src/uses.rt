@@ -4,7 +4,6 @@ ghost use Rattle.argot_typed.specs.declared.program.Decl.{Decl};
 ghost use Rattle.argot_typed.specs.declared.program.Use.{Use};
 ghost use Rattle.argot_naming.specs.Handed.{Handed};
 ghost use Rattle.argot_naming.specs.Lists.{IsListOf};
-ghost use Rattle.argot_naming.specs.Faults.{IsNowhere, Again};
 ghost use Rattle.argot_naming.specs.Loaded.{AreDecls, IsUse, count_nodes};
 ghost use Rattle.argot_reached.specs.Reached.{homes_of};
 ghost use Rattle.argot_tops.specs.Tops.{AreTops};
@@ -60,7 +59,7 @@ pub fn uses_of(
     decls: &[Decl],
 ) -> Result<Vec<Use>, Memory>
     requires { (h : Handed) × (main : List ℕ) × AreTops h main reached.now tops.now }
-    ensures { (h : Handed) (main : List ℕ) → h.trees ≡ trees.now → AreTops h main reached.now tops.now → AreDecls h (homes_of h reached.now) decls.now → IsNowhere h main Again → IfOk result (λ v. IsListOf (λ (a b : Use). a.node < b.node) (IsUse h (homes_of h reached.now) decls.now) v.items) }
+    ensures { (h : Handed) (main : List ℕ) → h.trees ≡ trees.now → AreTops h main reached.now tops.now → AreDecls h (homes_of h reached.now) decls.now → IfOk result (λ v. IsListOf (λ (a b : Use). a.node < b.node) (IsUse h (homes_of h reached.now) decls.now) v.items) }
 {
     let bases = node_bases(alloc, trees)?;
     let count = node_count(&bases);

@@ -1,3 +1,5 @@
+use Rattle.argot_naming.specs.Lists.{IsListOf}
+use Rattle.argot_flags.specs.Spots.{IsSpotted, IsSpotBefore}
 use Rattle.std.proofs.Common.{sym, ap, ◌∙◌, subst}
 use Rattle.std.specs.Prelude.{map}
 use Rattle.argot_packages.specs.Reads.{handed}
@@ -37,7 +39,7 @@ returns c = λ main is.
     ok_map c.flags_of.result _ _
     (λ v e. record {
       marked = map marked_of spots;
-      are = marks_are (HasFeature h main c.args.entries.now) spots (c.in_ok-spots.ensures main is tables);
+      are = marks_are (HasFeature h main c.args.entries.now) spots (subst (λ es. IsListOf IsSpotBefore (IsSpotted (HasFeature h main es)) spots) c.in_ok-table.ensures (c.in_ok-spots.ensures main is tables));
       flags_are = e ∙ (ap (map (flagged c.args.sources.now)) c.deref.ensures.value ∙ flags_are h spots);
     })
     c.flags_of.ensures

@@ -8,7 +8,7 @@ listed-requires c = let r = c.requires.reach in (handed c.args.sources.now c.arg
 
 pub returns-in-Ok-listed-clause-ok : goal.returns-in-Ok-listed-clause-ok
 returns-in-Ok-listed-clause-ok c main reach =
-    c.in-Ok-listed.ensures (handed c.args.sources.now c.args.lexed.now c.args.trees.now) main refl (c.in-Ok.ensures.ok main reach) (c.in-Ok.ensures.fine main reach)
+    c.in-Ok-listed.ensures (handed c.args.sources.now c.args.lexed.now c.args.trees.now) main refl (c.in-Ok.ensures.ok main reach)
 
 pub returns-clause-fault : goal.returns-clause-fault
 returns-clause-fault c main reach = memory

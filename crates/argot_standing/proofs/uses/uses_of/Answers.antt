@@ -8,7 +8,7 @@ use Rattle.argot_standing.specs.Tables.{IsTable}
 use Rattle.argot_standing.proofs.uses.uses_of.Goals as goal
 
 pub returns : goal.returns
-returns c h main same tops decls once =
+returns c h main same tops decls =
     let bases : AreBases h.trees c.in_ok-bases.bases.items = subst (λ ts. AreBases ts c.in_ok-bases.bases.items) (sym same) c.in_ok-bases.ensures in
     let count : c.node_count-count.result ≡ count_nodes h.trees = c.node_count-count.ensures h.trees (subst (AreBases h.trees) (sym c.deref.ensures.value) bases) in
     let known : AreKnown h main c.args.decls.now (record { bases = c.as_slice.result; numbers = c.as_slice-2.result; reached = c.args.reached; tops = c.args.tops }) = record {
