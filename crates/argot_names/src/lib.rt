@@ -2,8 +2,9 @@
 //!
 //! `load` meets `IsLoaded` of argot_naming: the packages that the main folder leads to, their declarations, and the
 //! declaration that each name stands for; and `Refuses`, of the faults of packages and names the first in order, at its first
-//! place. `resolve` tells whether there is a fault and lists nothing. All is linear but for hashing. `stubs_named` meets `AreNamed` of argot_naming: the paths of the library that imports of reached
-//! packages find, in byte order and each once. The caller hands these texts over with the files and asks again, until no path is new.
+//! place. `resolve` tells whether there is a fault and lists nothing. Both are linear but for hashing. `stubs_named` meets
+//! `AreNamed` of argot_naming: the paths of the library that imports of reached packages find, in byte order and each once. The
+//! caller hands these texts over with the files and asks again, until no path is new.
 #![tactic(auto)]
 
 mod checks;
