@@ -1,10 +1,10 @@
 //! A window for maintainers: prints the packages of a folder that is written down as one text, their declarations, and what
 //! each name stands for.
 //!
-//! It reads the file that is named, or `folder.txt`, in the folder where it runs. Its first line is the module's path, which may be empty; then come the
-//! files, each behind a line `-- PATH --`, in byte order of their paths. `lines.rt` has the form of what is printed; with the
-//! word `-count` it is how many packages, declarations and uses there are, and with `-parse` how many nodes the trees of the
-//! folder and of the library have, and nothing is resolved.
+//! It reads the file that is named, or `folder.txt`, in the folder where it runs. Its first line is the module's path, which
+//! may be empty; then come the files, each behind a line `-- PATH --`, in byte order of their paths. `lines.rt` has the form of
+//! what is printed; with the word `-count` it is how many packages, declarations and uses there are, and with `-parse` how many
+//! nodes the trees of the folder and of the library have, and nothing is resolved.
 #![tactic(auto)]
 
 mod answer;
