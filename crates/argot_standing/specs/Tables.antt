@@ -15,8 +15,8 @@ use Rattle.argot_reached.specs.Reached.{homes_of}
 
 -- the table with the declaration at the node, where there is one
 abbrev pub noted : List (Option ℕ) → Option ℕ → Option ℕ → List (Option ℕ)
-noted table node None = table
-noted table node (Some decl) = put table node (Some decl)
+noted table at None = table
+noted table at (Some decl) = put table at (Some decl)
 
 abbrev pub use_by : ℕ → ℕ → Use
 use_by node decl = record { node = node; decl = decl }
