@@ -1,7 +1,8 @@
 #!/bin/sh
 # Times the resolving of names beside parsing, on a generated folder of 8 MiB in 4,096 files of 64 packages: imports under names
 # and without, methods, shadowed names, members of the library and of other packages. It prints what is found, the processor
-# seconds and the greatest memory in MB of reading and parsing alone, and then with resolving. It installs nothing.
+# seconds (the least of five runs) and the greatest memory in MB of reading and parsing alone, and then with resolving. It
+# installs nothing.
 # usage: bench/names.sh [ARGOT_NAMES_SHOW [FILES]]
 #        (the built program; crates/argot_names_show/out/argot_names_show where none is named)
 set -eu
@@ -38,12 +39,14 @@ print("%d files, %d bytes" % (len(out), sum(len(text) for _, text in out)))' "$f
 
 (cd "$folder" && python3 -c '
 import resource, subprocess, sys
-def timed(word):
+def used(word):
     before = resource.getrusage(resource.RUSAGE_CHILDREN)
     lines = subprocess.run([sys.argv[1], word], capture_output=True, text=True).stdout.splitlines()
     after = resource.getrusage(resource.RUSAGE_CHILDREN)
-    seconds = after.ru_utime + after.ru_stime - before.ru_utime - before.ru_stime
-    print("%s: %.2f s, %d MB" % (", ".join(lines), seconds, after.ru_maxrss // 1024))
+    return after.ru_utime + after.ru_stime - before.ru_utime - before.ru_stime, after.ru_maxrss // 1024, ", ".join(lines)
+def timed(word):
+    seconds, memory, told = min(used(word) for _ in range(5))
+    print("%s: %.2f s, %d MB" % (told, seconds, memory))
     return seconds
 parse, whole = timed("-parse"), timed("-count")
 print("resolving takes %.2f times the time of reading and parsing" % ((whole - parse) / parse))' "$show")
