@@ -1,12 +1,11 @@
 -- Block by block, from the inside out.
-use Rattle.std.proofs.Common.{◌≡◌, ℕ, ◌+◌, ◌<◌, ◌≤◌, ◌⊎◌, inl, inr, Bool, true, false, List, Some, refl, sym, ap, ◌∙◌, subst, arith}
+use Rattle.std.proofs.Common.{◌≡◌, ℕ, ◌≤◌, ◌⊎◌, inl, inr, true, false, List, Some, refl, sym, ap, ◌∙◌, subst, arith}
 use Rattle.std.specs.Prelude.{slice_get}
 use Rattle.std.proofs.lemmas.Bool.{cases_order}
 use Rattle.argot_naming.specs.declared.home.Home.{Home}
-use Rattle.argot_naming.specs.Handed.{Handed, Read, Place, bytes_of, read_of, text_at}
+use Rattle.argot_naming.specs.Handed.{Handed, Place, bytes_of, read_of}
 use Rattle.argot_tree.specs.declared.token.Token.{Token}
 use Rattle.argot_tree.specs.declared.tree.TreeNode.{TreeNode}
-use Rattle.argot_naming.specs.Locals.{IsLocal}
 use Rattle.argot_naming.specs.Tops.{IsTop, IsImported}
 use Rattle.argot_naming.specs.Predeclared.{is_among, predeclared}
 use Rattle.argot_naming.specs.Scopes.{Declaration, Predeclared, Declared, Block, Everywhere, InPackage, InFile, InFunction, IsInside, InScope, ComesFirst, by_file, by_node, Means, MeansNothing}

@@ -1,10 +1,10 @@
 -- Names in functions that are declared again, file by file.
-use Rattle.std.proofs.Common.{◌≡◌, ℕ, ◌+◌, ◌<◌, inl, inr, List, length, Option, Some, None, refl, sym, ap, ◌∙◌, subst, arith}
+use Rattle.std.proofs.Common.{◌≡◌, ℕ, ◌+◌, inl, inr, List, Option, Some, None, refl, sym, ap, ◌∙◌, subst, arith}
 use Rattle.std.specs.Prelude.{slice_get}
 use Rattle.std.proofs.lemmas.Bool.{cases_eq}
 use Rattle.argot_tree.specs.declared.token.Token.{Token}
 use Rattle.argot_naming.specs.declared.home.Home.{Home}
-use Rattle.argot_naming.specs.Handed.{Handed, Read, Place as Byte, Begins, IsBefore, by_file, by_offset, read_of}
+use Rattle.argot_naming.specs.Handed.{Handed, Read, Place as Byte, IsBefore, by_file, by_offset, read_of}
 use Rattle.argot_naming.specs.Imports.{IsReachedFile}
 use Rattle.argot_scopes.specs.Again.{start_of}
 use Rattle.argot_scopes.specs.Files.{IsAgain, BeginsAt, IsFirstPlace, HasNoPlace}
@@ -12,7 +12,6 @@ use Rattle.argot_scopes.specs.declared.file.FileNames.{FileNames}
 use Rattle.argot_reached.specs.declared.reached.Reached.{Reached}
 use Rattle.argot_reached.specs.Reached.{IsReach}
 use Rattle.argot_tops.specs.declared.place.Place.{Place}
-use Rattle.argot_tops.specs.Places.{place_of}
 use Rattle.argot_tops.specs.First.{NamesFirst, there, nowhere, Either, sooner_of}
 use Rattle.argot_tops.specs.Behind.{IsAgainIn, IsAgainBelow}
 use Rattle.argot_tops.specs.Tops.{IsNamesOf, AreFiles}

@@ -1,6 +1,6 @@
 -- Which of two places comes first.
-use Rattle.std.proofs.Common.{◌≡◌, ℕ, ◌<◌, true, false, inl, inr, arith, ◌∙◌, sym}
-use Rattle.std.specs.Prelude.{nat_eq, nat_lt, ◌&&◌, ◌||◌}
+use Rattle.std.proofs.Common.{◌≡◌, true, false, inl, inr, arith, ◌∙◌}
+use Rattle.std.specs.Prelude.{nat_eq, nat_lt, ◌&&◌}
 use Rattle.std.proofs.lemmas.Bool.{or_cases, and_parts, ltb-true, eqb-true, lt-ltb, eq-eqb, or_left, or_right, and_from, both_ways}
 use Rattle.argot_naming.specs.Handed.{Place as Byte, IsBefore, by_file, by_offset}
 use Rattle.argot_tops.specs.declared.place.Place.{Place}

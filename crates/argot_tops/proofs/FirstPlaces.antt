@@ -1,6 +1,6 @@
 -- The first of the places that claims hold of.
-use Rattle.std.proofs.Common.{◌≡◌, ℕ, ◌+◌, ◌<◌, inl, inr, List, Bool, true, false, length, Option, Some, None, refl, sym, ap, ◌∙◌, subst, arith}
-use Rattle.std.specs.Prelude.{◌⊎◌, slice_get, IfSome, IfNone}
+use Rattle.std.proofs.Common.{◌≡◌, ℕ, ◌+◌, ◌<◌, inl, inr, List, length, Option, Some, None, refl, sym, ap, ◌∙◌, subst, arith}
+use Rattle.std.specs.Prelude.{slice_get, IfSome, IfNone}
 use Rattle.std.proofs.lemmas.Bool.{cond_both, cases_order, cases_eq}
 use Rattle.argot_naming.specs.Handed.{Place as Byte, IsBefore, by_file, by_offset, IsFirst}
 use Rattle.argot_packages.proofs.Lists.{get_below}
@@ -8,7 +8,7 @@ use Rattle.argot_tops.specs.declared.place.Place.{Place}
 use Rattle.argot_tops.specs.declared.named.Named.{Named}
 use Rattle.argot_tops.specs.declared.entries.Entry.{Entry}
 use Rattle.argot_tops.specs.Places.{place_of}
-use Rattle.argot_tops.specs.Entries.{Entries, found_at, is_before, IsAt, IsEntry, IsEntryOf, found, missing, AreEntries}
+use Rattle.argot_tops.specs.Entries.{Entries, found_at, is_before, IsEntry, IsEntryOf, found, missing, AreEntries}
 use Rattle.argot_tops.specs.First.{NamesFirst, there, nowhere, Either, sooner_of}
 use Rattle.argot_tops.specs.Behind.{IsItemBehind, IsBehindBelow}
 use Rattle.argot_tops.proofs.Before.{before_by, not_before, never_before, before_through}

@@ -1,11 +1,11 @@
 -- Lists of names grow by what one item after the other gives.
 use Rattle.std.proofs.Common.{◌≡◌, ℕ, ◌+◌, ◌<◌, inl, inr, List, [], ◌∷◌, ◌++◌, length, Option, Some, None, refl, sym, ap, ◌∙◌, subst, arith}
-use Rattle.std.specs.Prelude.{◌⊎◌, slice_get, IfSome, IfNone}
+use Rattle.std.specs.Prelude.{slice_get, IfSome, IfNone}
 use Rattle.std.specs.Option.{option_to_list}
 use Rattle.std.proofs.lemmas.Bool.{cases_eq}
 use Rattle.argot_packages.proofs.Lists.{get_last, get_before, get_either, get_below}
 use Rattle.argot_tops.specs.declared.named.Named.{Named}
-use Rattle.argot_tops.specs.Collecting.{IsGiven, HasGiven, AreGivenInOrder, AreCollected}
+use Rattle.argot_tops.specs.Collecting.{IsGiven, AreGivenInOrder, AreCollected}
 
 some_is : {A : Type 0} (x y : A) → Some x ≡ Some y → x ≡ y
 some_is x y e = cc

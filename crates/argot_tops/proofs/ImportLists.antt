@@ -1,5 +1,5 @@
 -- The names of imports.
-use Rattle.std.proofs.Common.{◌≡◌, ◌≢◌, ℕ, ◌<◌, inl, inr, List, length, Option, Some, None, refl, sym, ap, ◌∙◌, subst, arith}
+use Rattle.std.proofs.Common.{◌≡◌, ◌≢◌, ℕ, inl, inr, List, length, Option, Some, None, refl, sym, ap, ◌∙◌, subst, arith}
 use Rattle.std.specs.Prelude.{◌⊎◌, codes, slice_get}
 use Rattle.argot_tree.specs.declared.token.Token.{Token}
 use Rattle.argot_tree.specs.declared.tree.TreeNode.{TreeNode}
@@ -8,9 +8,9 @@ use Rattle.argot_naming.specs.declared.home.Home.{Home}
 use Rattle.argot_naming.specs.declared.alias.Alias.{Alias}
 use Rattle.argot_naming.specs.declared.alias.Alias.TheVariants.{Unnamed, Dotted, Named as Aliased}
 use Rattle.argot_naming.specs.Handed.{Handed, Read, Place, Begins, bytes_of, read_of, text_at, spelled}
-use Rattle.argot_naming.specs.Nodes.{Spans, IsFirstChild}
+use Rattle.argot_naming.specs.Nodes.{Spans}
 use Rattle.argot_naming.specs.Homes.{HasClause, HasName, IsLeftOut, Finds, of_module, handwritten, of_library}
-use Rattle.argot_naming.specs.Imports.{Imports, Edge, Leads, onward, IsReached, IsReachedFile}
+use Rattle.argot_naming.specs.Imports.{Imports, onward, IsReached, IsReachedFile}
 use Rattle.argot_naming.specs.Tops.{Imported, own, of_package, left_out, IsImported}
 use Rattle.argot_typed.specs.declared.program.Package.{Package}
 use Rattle.argot_packages.specs.declared.written.Written.{Written}
@@ -18,7 +18,6 @@ use Rattle.argot_packages.specs.declared.find.Found.{Found}
 use Rattle.argot_packages.specs.declared.find.Found.TheVariants.{LeftOut}
 use Rattle.argot_packages.specs.Found.{IsFound}
 use Rattle.argot_packages.specs.Found.IsFound.{folder as found_folder, library as found_library, unhanded, left_out as found_left_out, nothing}
-use Rattle.argot_packages.specs.AllWritten.{IsAnImport}
 use Rattle.argot_packages.proofs.Lists.{get_below, get_there, get_none}
 use Rattle.argot_packages.proofs.Siting.{one_site}
 use Rattle.argot_packages.proofs.Surveys.{finds_one}
@@ -29,7 +28,6 @@ use Rattle.argot_reached.proofs.Standing.{first_is_one}
 use Rattle.argot_tops.specs.declared.named.Named.{Named}
 use Rattle.argot_tops.specs.Places.{place_of}
 use Rattle.argot_tops.specs.TopNames.{start_of}
-use Rattle.argot_tops.specs.Declaring.{HasItem}
 use Rattle.argot_tops.specs.Importing.{IsImportName, HasImport, AreImportNames}
 use Rattle.argot_tops.specs.Collecting.{AreCollected}
 use Rattle.argot_tops.specs.ImportNames.{IsImportAt, IsImportItem, GivesImport, written_in}

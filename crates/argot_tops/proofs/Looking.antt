@@ -1,5 +1,5 @@
 -- What a look into the tables finds.
-use Rattle.std.proofs.Common.{◌≡◌, ℕ, ◌+◌, ◌<◌, ◌≤◌, inl, inr, List, length, Option, Some, None, refl, sym, ap, ◌∙◌, subst, arith, Bor}
+use Rattle.std.proofs.Common.{◌≡◌, ℕ, ◌<◌, ◌≤◌, inl, inr, List, length, Option, Some, None, sym, ap, ◌∙◌, subst, arith, Bor}
 use Rattle.std.specs.Prelude.{◌⊎◌, slice_get, IfSome, IfNone}
 use Rattle.std.proofs.lemmas.Bool.{cases_order}
 use Rattle.argot_naming.specs.declared.home.Home.{Home}
@@ -14,9 +14,9 @@ use Rattle.argot_tops.specs.declared.named.Named.{Named}
 use Rattle.argot_tops.specs.declared.tops.Tops.{Tops}
 use Rattle.argot_tops.specs.Places.{place_of}
 use Rattle.argot_tops.specs.Entries.{IsAt, AreEntries, Entries, IsFirstItem}
-use Rattle.argot_tops.specs.Declaring.{ComesBefore, HasItem}
+use Rattle.argot_tops.specs.Declaring.{HasItem}
 use Rattle.argot_tops.specs.Importing.{HasImport}
-use Rattle.argot_tops.specs.Tops.{IsNamesOf, AreFiles, AreTops}
+use Rattle.argot_tops.specs.Tops.{IsNamesOf, AreTops}
 use Rattle.argot_tops.specs.Meant.{IsFirstTop, IsFirstImport}
 use Rattle.argot_tops.proofs.Ordering.{imports_ascend}
 

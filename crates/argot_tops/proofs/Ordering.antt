@@ -1,5 +1,5 @@
 -- Lists in order: of two items the earlier one stands before the other.
-use Rattle.std.proofs.Common.{◌≡◌, ℕ, zero, suc, ◌+◌, ◌-◌, ◌<◌, List, length, Some, sym, ap, ◌∙◌, subst, arith}
+use Rattle.std.proofs.Common.{◌≡◌, ℕ, zero, suc, ◌+◌, ◌-◌, ◌<◌, List, Some, ◌∙◌, subst, arith}
 use Rattle.std.specs.Prelude.{slice_get}
 use Rattle.argot_naming.specs.Lists.{IsOrdered}
 use Rattle.argot_packages.specs.declared.written.Written.{Written}

@@ -1,26 +1,21 @@
 -- Each file of a package that is reached was read.
 use Rattle.std.proofs.Common.{◌≡◌, ℕ, zero, suc, ◌+◌, ◌<◌, inl, inr, List, [], ◌∷◌, ◌++◌, length, Bool, true, false, Option, Some, None, refl, sym, ap, ◌∙◌, subst, arith, length-append}
-use Rattle.std.specs.Prelude.{map, codes, slice_get, ◌&&◌}
+use Rattle.std.specs.Prelude.{map, codes, slice_get}
 use Rattle.std.specs.List.{list_all}
 use Rattle.std.proofs.lemmas.Bool.{and_parts}
 use Rattle.argot_stubs.specs.Stubs.{HasStub, errors, fmt, os, exec, strings, log, strconv, sync}
 use Rattle.argot_naming.specs.declared.home.Home.{Home}
-use Rattle.argot_naming.specs.declared.home.Home.TheVariants as homes
-use Rattle.argot_naming.specs.Handed.{Handed, nodes_in}
+use Rattle.argot_naming.specs.Handed.{Handed}
 use Rattle.argot_naming.specs.Homes.{HasPath, IsFileOf, in_folder, in_library}
 use Rattle.argot_naming.specs.Imports.{IsReached, IsReachedFile}
 use Rattle.argot_naming.specs.Agreeing.{is_numbered, library_path, IsRead, Agrees}
-use Rattle.argot_tree.specs.declared.lexed.Lexed.{Lexed}
-use Rattle.argot_tree.specs.declared.tree.Tree.{Tree}
-use Rattle.argot_packages.specs.Surveyed.{IsProper, folder, library}
+use Rattle.argot_packages.specs.Surveyed.{IsProper, library}
 use Rattle.argot_packages.proofs.Lists.{get_two, get_map, get_below, get_there, get_either}
 use Rattle.argot_packages.proofs.Reached.{reached_proper}
 use Rattle.argot_scopes.specs.declared.file.FileNames.{FileNames}
-use Rattle.argot_scopes.specs.Names.{AreNames}
 use Rattle.argot_reached.specs.declared.reached.Reached.{Reached}
-use Rattle.argot_reached.specs.Reached.{homes_of, IsReach}
+use Rattle.argot_reached.specs.Reached.{IsReach}
 use Rattle.argot_reached.specs.Numbers.{IsOfNumber}
-use Rattle.argot_packages.specs.Reads.{bytes_at, tokens_at}
 use Rattle.argot_tops.specs.Tops.{IsNamesOf, AreFiles, IsFileEntry, of_package, of_none, AreFilesBelow}
 
 some_is : {A : Type 0} (x y : A) → Some x ≡ Some y → x ≡ y

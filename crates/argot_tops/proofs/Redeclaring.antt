@@ -1,6 +1,6 @@
 -- Names that their scope has from an earlier place are those of the definition.
-use Rattle.std.proofs.Common.{◌≡◌, ℕ, ◌<◌, inl, inr, List, length, Option, Some, None, refl, sym, ap, ◌∙◌, subst, arith}
-use Rattle.std.specs.Prelude.{◌⊎◌, slice_get}
+use Rattle.std.proofs.Common.{◌≡◌, ℕ, inl, inr, List, length, Option, Some, refl, sym, ap, ◌∙◌, subst}
+use Rattle.std.specs.Prelude.{slice_get}
 use Rattle.argot_naming.specs.declared.home.Home.{Home}
 use Rattle.argot_naming.specs.Handed.{Handed, Place as Byte, IsBefore}
 use Rattle.argot_naming.specs.Imports.{IsReached, IsReachedFile}
@@ -8,18 +8,18 @@ use Rattle.argot_naming.specs.Tops.{IsTop, IsImported}
 use Rattle.argot_naming.specs.Faults.{IsRedeclared, in_package, in_file, import_behind, import_before, in_function}
 use Rattle.argot_packages.proofs.Lists.{get_below}
 use Rattle.argot_reached.specs.declared.reached.Reached.{Reached}
-use Rattle.argot_reached.specs.Reached.{homes_of, IsReach}
+use Rattle.argot_reached.specs.Reached.{homes_of}
 use Rattle.argot_reached.specs.Numbers.{IsOfNumber}
 use Rattle.argot_tops.specs.declared.named.Named.{Named}
 use Rattle.argot_tops.specs.declared.place.Place.{Place}
 use Rattle.argot_tops.specs.declared.tops.Tops.{Tops}
 use Rattle.argot_tops.specs.Places.{place_of}
 use Rattle.argot_tops.specs.Collecting.{AreCollected}
-use Rattle.argot_tops.specs.Declaring.{HasItem, IsDeclared}
-use Rattle.argot_tops.specs.Importing.{IsImportName, HasImport}
+use Rattle.argot_tops.specs.Declaring.{HasItem}
+use Rattle.argot_tops.specs.Importing.{HasImport}
 use Rattle.argot_scopes.specs.declared.file.FileNames.{FileNames}
 use Rattle.argot_tops.specs.First.{NamesFirst, Either, sooner_of}
-use Rattle.argot_tops.specs.Behind.{IsItemBehind, IsBehindBelow, GivesPackaged, IsAgainIn, IsAgainBelow}
+use Rattle.argot_tops.specs.Behind.{IsBehindBelow, GivesPackaged, IsAgainBelow}
 use Rattle.argot_tops.specs.Tops.{AreTops}
 use Rattle.argot_tops.proofs.FirstPlaces.{first_same, sooner_first}
 use Rattle.argot_tops.proofs.TopLists.{one_number}

@@ -4,8 +4,7 @@ use Rattle.std.specs.Prelude.{◌⊎◌, codes, slice_get}
 use Rattle.std.proofs.lemmas.Bool.{cases_eq}
 use Rattle.argot_tree.specs.declared.token.Token.{Token}
 use Rattle.argot_naming.specs.declared.home.Home.{Home}
-use Rattle.argot_naming.specs.Handed.{Handed, Read, Place, Begins, read_of, text_at}
-use Rattle.argot_naming.specs.Homes.{IsFileOf}
+use Rattle.argot_naming.specs.Handed.{Handed, Read, Place, read_of, text_at}
 use Rattle.argot_naming.specs.Imports.{IsReachedFile}
 use Rattle.argot_naming.specs.Tops.{Sort as Kinds, IsTopName, HasScope, IsTop}
 use Rattle.argot_naming.specs.Tops.Sort.{Value as kind_value, Kind as kind_kind, Function as kind_function}
@@ -23,7 +22,7 @@ use Rattle.argot_reached.specs.Numbers.{IsOfNumber}
 use Rattle.argot_tops.specs.declared.named.Named.{Named}
 use Rattle.argot_tops.specs.Places.{place_of}
 use Rattle.argot_tops.specs.TopNames.{start_of, text_in, IsScopedTop, GivesTop}
-use Rattle.argot_tops.specs.Collecting.{IsGiven, HasGiven, AreGivenInOrder, AreCollected}
+use Rattle.argot_tops.specs.Collecting.{AreCollected}
 use Rattle.argot_tops.specs.Declaring.{ComesBefore, IsDeclared, HasItem, AreDeclared, AreDeclaredIn, AreDeclaredBelow}
 use Rattle.argot_tops.specs.Tops.{IsNamesOf, AreFiles}
 use Rattle.argot_tops.proofs.Ordering.{ordered_all}

@@ -1,9 +1,8 @@
 -- When a name or a member stands for nothing.
-use Rattle.std.proofs.Common.{◌≡◌, ◌≢◌, ℕ, ◌<◌, ◌≤◌, List, true, false, Option, Some, None, refl, sym, ap, ◌∙◌, subst, codes}
+use Rattle.std.proofs.Common.{◌≡◌, ℕ, ◌<◌, List, true, false, Option, Some, None, refl, sym, ap, ◌∙◌, subst, codes}
 use Rattle.std.specs.Prelude.{slice_get, length}
 use Rattle.argot_naming.specs.declared.home.Home.{Home}
 use Rattle.argot_naming.specs.Handed.{Handed, Read, read_of, text_at}
-use Rattle.argot_naming.specs.Nodes.{Spans}
 use Rattle.argot_naming.specs.Homes.{IsLeftOut, Finds, of_module, handwritten, of_library}
 use Rattle.argot_naming.specs.declared.home.Home.TheVariants as homes
 use Rattle.argot_naming.specs.Scopes.{Declaration, Predeclared, Declared, Means, MeansNothing}

@@ -14,10 +14,8 @@ use Rattle.argot_naming.specs.Uses.{IsKey, IsLooked, IsDotted, IsOfPackage, IsMe
 use Rattle.argot_naming.specs.Faults.{IsUnresolved, lone, member, IsNowhere, Unknown}
 use Rattle.argot_bindings.specs.declared.bindings.Looked.{Looked}
 use Rattle.argot_bindings.specs.declared.looked.Dotted.{Dotted}
-use Rattle.argot_bindings.specs.Listing.{AreBindings}
 use Rattle.argot_scopes.specs.declared.file.FileNames.{FileNames}
 use Rattle.argot_scopes.specs.Again.{start_of, smaller, sooner_of}
-use Rattle.argot_reached.specs.Reached.{home_of}
 use Rattle.argot_reached.proofs.Standing.{reached_home}
 use Rattle.argot_reached.specs.declared.reached.Reached.{Reached}
 use Rattle.argot_tops.specs.declared.tops.Tops.{Tops}

@@ -1,17 +1,15 @@
 -- What a package exports under a name.
-use Rattle.std.proofs.Common.{◌≡◌, ℕ, ◌<◌, ◌≤◌, ◌⊎◌, List, Option, Some, None, inl, inr, refl, sym, ◌∙◌, subst, arith}
-use Rattle.std.specs.Prelude.{slice_get, IfSome, IfNone}
+use Rattle.std.proofs.Common.{ℕ, List, Option, Some, None, subst}
+use Rattle.std.specs.Prelude.{IfSome, IfNone}
 use Rattle.argot_naming.specs.declared.home.Home.{Home}
 use Rattle.argot_naming.specs.Handed.{Handed, Place}
 use Rattle.argot_naming.specs.Homes.{Finds}
-use Rattle.argot_naming.specs.Imports.{Edge, Leads, onward, IsReached, IsReachedFile}
+use Rattle.argot_naming.specs.Imports.{Edge, onward, IsReached}
 use Rattle.argot_naming.specs.Tops.{IsTop, IsExported}
-use Rattle.argot_naming.specs.Uses.{IsMember}
 use Rattle.argot_packages.specs.declared.written.Written.{Written}
 use Rattle.argot_packages.proofs.Surveys.{finds_one}
 use Rattle.argot_reached.specs.declared.reached.Reached.{Reached}
-use Rattle.argot_reached.specs.Reached.{homes_of, IsReach}
-use Rattle.argot_reached.specs.Numbers.{IsFoundBy}
+use Rattle.argot_reached.specs.Reached.{IsReach}
 use Rattle.argot_tops.specs.declared.tops.Top.{Top}
 use Rattle.argot_tops.specs.Meant.{IsFirstTop}
 use Rattle.argot_uses.specs.Members.{IsImportOf, IsMemberMeant, some, nothing}

@@ -1,15 +1,15 @@
 -- The import that a name before a dot means is one.
-use Rattle.std.proofs.Common.{◌≡◌, ℕ, ◌+◌, ◌<◌, ◌≤◌, ◌⊎◌, List, Bool, true, false, Option, Some, None, inl, inr, refl, sym, ap, ◌∙◌, subst, arith}
-use Rattle.std.specs.Prelude.{slice_get, IfSome, IfNone}
+use Rattle.std.proofs.Common.{◌≡◌, ℕ, ◌+◌, ◌≤◌, List, Bool, true, false, Option, Some, None, inl, inr, refl, sym, ap, ◌∙◌, subst, arith}
+use Rattle.std.specs.Prelude.{IfSome, IfNone}
 use Rattle.argot_tree.specs.declared.node_kind.NodeKind.{NodeKind}
 use Rattle.argot_tree.specs.declared.node_kind.NodeKind.TheVariants as nodes
 use Rattle.argot_tree.specs.declared.tree.TreeNode.{TreeNode}
 use Rattle.argot_naming.specs.declared.home.Home.{Home}
 use Rattle.argot_naming.specs.declared.alias.Alias.{Alias}
-use Rattle.argot_naming.specs.Handed.{Handed, Read, Place, read_of, text_at}
+use Rattle.argot_naming.specs.Handed.{Handed, Place, read_of, text_at}
 use Rattle.argot_naming.specs.Nodes.{Spans}
-use Rattle.argot_naming.specs.Imports.{IsImport, unnamed, dotted, named, IsReachedFile}
-use Rattle.argot_naming.specs.Locals.{Manner, HasColon, of_case, of_default, Brings, value, type_, define, range, receive, parameter, switched, IsLocal}
+use Rattle.argot_naming.specs.Imports.{IsImport, unnamed, dotted, named}
+use Rattle.argot_naming.specs.Locals.{Manner, HasColon, of_case, of_default, Brings, value, type_, define, range, receive, parameter, switched}
 use Rattle.argot_naming.specs.TextValues.{TextValue}
 use Rattle.argot_naming.specs.Tops.{IsImported}
 use Rattle.argot_naming.specs.Scopes.{Declaration, Predeclared, Declared, Block, InFunction, IsInside, depth, InScope, Means}

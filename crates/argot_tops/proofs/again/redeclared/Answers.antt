@@ -1,13 +1,12 @@
 use Rattle.std.proofs.Common.{◌≡◌, List, length, Option, Some, ◌∙◌, sym, ap, subst}
 use Rattle.std.specs.Prelude.{slice_get}
 use Rattle.argot_naming.specs.Faults.{IsRedeclared}
-use Rattle.argot_naming.specs.Handed.{Handed}
 use Rattle.argot_scopes.specs.declared.file.FileNames.{FileNames}
 use Rattle.argot_tops.specs.declared.named.Named.{Named}
 use Rattle.argot_tops.specs.Collecting.{AreCollected}
 use Rattle.argot_tops.specs.First.{NamesFirst, sooner_of}
 use Rattle.argot_tops.specs.Behind.{GivesPackaged}
-use Rattle.argot_tops.specs.Tops.{AreFiles, AreTops}
+use Rattle.argot_tops.specs.Tops.{AreFiles}
 use Rattle.argot_tops.proofs.FirstPlaces.{first_some, first_nowhere}
 use Rattle.argot_tops.proofs.Redeclaring.{first_all}
 use Rattle.argot_tops.proofs.again.redeclared.Goals as goal

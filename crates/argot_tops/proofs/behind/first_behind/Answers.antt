@@ -1,6 +1,6 @@
 use Rattle.std.proofs.Common.{◌≡◌, ◌+◌, length, sym, subst, arith}
 use Rattle.argot_tops.specs.First.{NamesFirst}
-use Rattle.argot_tops.specs.Behind.{IsItemBehind, IsBehindBelow}
+use Rattle.argot_tops.specs.Behind.{IsBehindBelow}
 use Rattle.argot_tops.proofs.FirstPlaces.{below_none, below_more}
 use Rattle.argot_tops.proofs.behind.first_behind.Goals as goal
 

@@ -1,8 +1,7 @@
-use Rattle.std.proofs.Common.{◌≡◌, Some, refl, sym, ◌∙◌, subst, ap}
+use Rattle.std.proofs.Common.{◌≡◌, Some, refl, sym, ◌∙◌, subst}
 use Rattle.std.specs.Prelude.{slice_get}
 use Rattle.argot_packages.specs.declared.written.Written.{Written}
 use Rattle.argot_packages.specs.Reads.{handed}
-use Rattle.argot_reached.specs.Numbers.{IsOfNumber}
 use Rattle.argot_tops.specs.declared.named.Named.{Named}
 use Rattle.argot_tops.specs.ImportNames.{IsImportAt, IsImportItem, GivesImport}
 use Rattle.argot_tops.proofs.Results.{some_onto, none_onto}

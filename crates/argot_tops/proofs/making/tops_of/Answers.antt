@@ -1,7 +1,5 @@
 use Rattle.std.proofs.Common.{List, length, sym, subst}
 use Rattle.argot_packages.specs.Reads.{handed}
-use Rattle.argot_scopes.specs.declared.file.FileNames.{FileNames}
-use Rattle.argot_reached.specs.Reached.{homes_of}
 use Rattle.argot_tops.specs.declared.named.Named.{Named}
 use Rattle.argot_tops.specs.Entries.{AreEntries}
 use Rattle.argot_tops.specs.Tops.{AreFiles}

@@ -1,4 +1,4 @@
-use Rattle.std.proofs.Common.{◌≡◌, ℕ, List, Option, Some, None, refl, sym, subst, ap, ◌∙◌}
+use Rattle.std.proofs.Common.{refl}
 use Rattle.argot_uses.proofs.Faulty.{text_is, lone_key, lone_blank, lone_passed, lone_some, lone_none, looked_within}
 use Rattle.argot_uses.proofs.faults.lone_fault.Goals as goal
 

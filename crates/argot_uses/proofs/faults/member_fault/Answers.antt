@@ -1,9 +1,7 @@
-use Rattle.std.proofs.Common.{◌≡◌, ℕ, List, Option, Some, None, refl, sym, subst, ap, ◌∙◌}
+use Rattle.std.proofs.Common.{◌≡◌, Some, refl, sym, subst}
 use Rattle.std.specs.Prelude.{slice_get}
-use Rattle.argot_packages.specs.declared.find.Found.{Found}
 use Rattle.argot_packages.specs.declared.find.Found.TheVariants as finds
 use Rattle.argot_uses.specs.Packages.{IsPackageMeant}
-use Rattle.argot_uses.specs.Faults.{IsExactly, IsMemberFault}
 use Rattle.argot_uses.proofs.Faulty.{member_passed, by_none, by_left_out, by_member, by_no_member}
 use Rattle.argot_uses.proofs.faults.member_fault.Goals as goal
 

@@ -1,8 +1,8 @@
-use Rattle.std.proofs.Common.{◌≡◌, ℕ, List, Option, Some, None, refl, sym, subst, ap, ◌∙◌}
+use Rattle.std.proofs.Common.{refl, subst, ap, ◌∙◌}
 use Rattle.argot_naming.specs.Handed.{Read, read_of, text_at}
-use Rattle.argot_scopes.specs.Files.{file_of, MeansLocal, MeansNoLocal}
+use Rattle.argot_scopes.specs.Files.{MeansLocal, MeansNoLocal}
 use Rattle.argot_meanings.proofs.Inside.{file_is}
-use Rattle.argot_uses.specs.Packages.{some, nothing}
+use Rattle.argot_uses.specs.Packages.{nothing}
 use Rattle.argot_uses.proofs.OfPackages.{local_no_package, package_is}
 use Rattle.argot_uses.proofs.imports.package_meant.Goals as goal
 

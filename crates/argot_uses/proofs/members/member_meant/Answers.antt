@@ -1,5 +1,4 @@
-use Rattle.std.proofs.Common.{◌≡◌, ℕ, List, Option, Some, None, refl, sym, subst, ap, ◌∙◌}
-use Rattle.std.specs.Prelude.{slice_get}
+use Rattle.std.proofs.Common.{◌≡◌, Some, sym, subst, ◌∙◌}
 use Rattle.argot_naming.specs.Homes.{Finds}
 use Rattle.argot_packages.specs.declared.written.Written.{Written}
 use Rattle.argot_uses.proofs.Membership.{found_reached, not_exported, no_target, in_target}

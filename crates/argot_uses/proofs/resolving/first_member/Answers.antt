@@ -1,4 +1,4 @@
-use Rattle.std.proofs.Common.{◌≡◌, ◌+◌, ℕ, List, Some, sym, subst, arith, length}
+use Rattle.std.proofs.Common.{◌≡◌, List, Some, subst}
 use Rattle.std.specs.Prelude.{slice_get}
 use Rattle.argot_bindings.specs.declared.looked.Dotted.{Dotted}
 use Rattle.argot_uses.specs.Faults.{IsFirstOf, MemberAt}

@@ -1,4 +1,3 @@
-use Rattle.std.proofs.Common.{◌≡◌, ℕ, List, Option, Some, None, refl, sym, subst}
 use Rattle.argot_uses.proofs.FirstUnresolved.{not_reached}
 use Rattle.argot_uses.proofs.resolving.first_of_file.Goals as goal
 

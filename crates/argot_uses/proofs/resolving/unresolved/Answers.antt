@@ -1,4 +1,4 @@
-use Rattle.std.proofs.Common.{◌≡◌, ◌≤◌, ℕ, List, Option, Some, None, arith, ap, length}
+use Rattle.std.proofs.Common.{arith, ap, length}
 use Rattle.argot_uses.proofs.FirstUnresolved.{none_more, first_place, nowhere}
 use Rattle.argot_uses.proofs.resolving.unresolved.Goals as goal
 
