@@ -9,7 +9,7 @@ use Rattle.argot_packages.specs.Reads.{bytes_at}
 use Rattle.argot_packages.proofs.Lists.{get_either, get_below, get_there}
 use Rattle.argot_naming.specs.Agreeing.{is_go_file}
 use Rattle.argot_reading.specs.Files.{AreFiles}
-use Rattle.argot_reading.specs.Reading.{IsReading, AreReadings, IsUnlexed, IsUnparsed, HasNoTree, no_tokens, no_tree, IsUnread}
+use Rattle.argot_reading.specs.Reading.{IsReading, AreReadings, IsUnlexed, IsUnparsed, HasNoTree, no_tokens, too_deep, no_tree, IsUnread}
 use Rattle.argot_reading.specs.declared.reading.ReadingFault.{ReadingFault}
 use Rattle.argot_reading.specs.declared.reading.ReadingFault.TheVariants as faults
 
@@ -60,8 +60,8 @@ unlexed bytes file faults.Memory h = _
 
 pub unparsed : (bytes : List ℕ) (file : ℕ) (lexed : Lexed) (fault : ReadingFault) → SpellsText lexed bytes → IsUnparsed lexed.tokens file fault → HasNoTree bytes file fault
 unparsed bytes file lexed (faults.Token f offset) spells h = absurd h
-unparsed bytes file lexed (faults.TooDeep f at) spells h = (ap (λ k. Some k) h.0, no_tree lexed spells h.1)
-unparsed bytes file lexed (faults.Syntax f at) spells h = (ap (λ k. Some k) h.0, no_tree lexed spells h.1)
+unparsed bytes file lexed (faults.TooDeep f at) spells h = (ap (λ k. Some k) h.0, too_deep lexed spells h.1)
+unparsed bytes file lexed (faults.Syntax f at) spells h = (ap (λ k. Some k) h.0, no_tree lexed spells h.1.0 h.1.1)
 unparsed bytes file lexed faults.Memory spells h = _
 
 pub unread : (s : Sources) (file : ℕ) (path : List ℕ) (lexed : List Lexed) (trees : List Tree) (fault : ReadingFault) → slice_get s.paths file ≡ Some path → is_go_file path ≡ true → HasNoTree (bytes_at s file) file fault → AreReadings s file lexed trees → IsUnread s fault

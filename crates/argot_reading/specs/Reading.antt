@@ -52,17 +52,11 @@ IsUnparsed tokens file (faults.TooDeep f at) = (f ≡ file) × IsTooDeep tokens 
 IsUnparsed tokens file (faults.Syntax f at) = (f ≡ file) × (IsShallow tokens × SpellsNoTree tokens)
 IsUnparsed tokens file faults.Memory = Unit {0}
 
--- these tokens have no tree, as told
-abbrev pub IsUnspelled : List Token → ReadingFault → Type 0
-IsUnspelled tokens (faults.Token f offset) = ⊥
-IsUnspelled tokens (faults.TooDeep f at) = IsTooDeep tokens at
-IsUnspelled tokens (faults.Syntax f at) = IsShallow tokens × SpellsNoTree tokens
-IsUnspelled tokens faults.Memory = ⊥
-
--- no tokens spell the bytes, or no tree their tokens
+-- no tokens spell the bytes; or those that do are nested too deeply, or no tree spells them
 pub data IsUnreadable (bytes : List ℕ) : ReadingFault → Type 0 where
   no_tokens : {file offset : ℕ} → IsFirstBad bytes offset → ((lexed : Lexed) → SpellsText lexed bytes → ⊥) → IsUnreadable bytes (faults.Token file offset)
-  no_tree : {fault : ReadingFault} (lexed : Lexed) → SpellsText lexed bytes → IsUnspelled lexed.tokens fault → IsUnreadable bytes fault
+  too_deep : {file at : ℕ} (lexed : Lexed) → SpellsText lexed bytes → IsTooDeep lexed.tokens at → IsUnreadable bytes (faults.TooDeep file at)
+  no_tree : {file at : ℕ} (lexed : Lexed) → SpellsText lexed bytes → IsShallow lexed.tokens → SpellsNoTree lexed.tokens → IsUnreadable bytes (faults.Syntax file at)
 
 -- the file that is told
 abbrev pub file_of : ReadingFault → Option ℕ
