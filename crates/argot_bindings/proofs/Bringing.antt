@@ -1,14 +1,14 @@
 -- What is computed for a node is exactly what it brings.
 use Rattle.std.proofs.Common.{◌≡◌, ℕ, List, Option, Some, refl, sym, ◌∙◌, subst}
 use Rattle.argot_tree.specs.declared.tree.TreeNode.{TreeNode}
-use Rattle.argot_bindings.specs.declared.surroundings.Span.{Span}
+use Rattle.argot_bindings.specs.declared.blocks.Block.{Block}
 use Rattle.argot_bindings.specs.declared.brought.Manner.{Manner as Written}
 use Rattle.argot_bindings.specs.declared.brought.Manner.TheVariants as manners
 use Rattle.argot_bindings.specs.declared.brought.Brought.{Brought}
 use Rattle.argot_bindings.specs.Forms.{IsFormed}
 use Rattle.argot_bindings.specs.Keys.{AreKeys}
 use Rattle.argot_bindings.specs.Parents.{AreParents}
-use Rattle.argot_bindings.specs.Surroundings.{AreSurroundings}
+use Rattle.argot_bindings.specs.Blocks.{AreBlocks}
 use Rattle.argot_bindings.specs.Brought.{manner_of, written_of, IsBroughtBy}
 use Rattle.argot_bindings.specs.Bringing.{bring_of}
 use Rattle.argot_bindings.proofs.BringsAll.{all_brought}
@@ -20,12 +20,12 @@ written_back manners.Defined = refl
 written_back manners.Received = refl
 written_back manners.Switched = refl
 
-pub brought_by : (tree : List TreeNode) (ps keys : List (Option ℕ)) (around : List (Option Span)) (k : ℕ) (result : Option Brought) → IsFormed tree → AreParents tree ps → AreKeys tree keys → AreSurroundings tree around → result ≡ bring_of tree ps keys around k → IsBroughtBy tree k result
-brought_by tree ps keys around k result formed parents_ok keys_ok around_ok e =
+pub brought_by : (tree : List TreeNode) (ps keys : List (Option ℕ)) (blocks : List Block) (k : ℕ) (result : Option Brought) → IsFormed tree → AreParents tree ps → AreKeys tree keys → AreBlocks tree blocks → result ≡ bring_of tree ps keys blocks k → IsBroughtBy tree k result
+brought_by tree ps keys blocks k result formed parents_ok keys_ok blocks_ok e =
     record {
-      sound = λ b g. only_brought tree ps keys around parents_ok keys_ok around_ok k b (sym e ∙ g);
+      sound = λ b g. only_brought tree ps keys blocks parents_ok keys_ok blocks_ok k b (sym e ∙ g);
       complete = λ b same brings.
-          let all = all_brought tree ps keys around formed parents_ok keys_ok around_ok brings in
-          let here : bring_of tree ps keys around k ≡ Some (record { manner = written_of (manner_of b.manner); node = b.node; token = b.token; opens = b.opens; closes = b.closes; from = b.from }) = subst (λ x. bring_of tree ps keys around x ≡ Some (record { manner = written_of (manner_of b.manner); node = b.node; token = b.token; opens = b.opens; closes = b.closes; from = b.from })) same all in
+          let all = all_brought tree ps keys blocks formed parents_ok keys_ok blocks_ok brings in
+          let here : bring_of tree ps keys blocks k ≡ Some (record { manner = written_of (manner_of b.manner); node = b.node; token = b.token; opens = b.opens; closes = b.closes; from = b.from }) = subst (λ x. bring_of tree ps keys blocks x ≡ Some (record { manner = written_of (manner_of b.manner); node = b.node; token = b.token; opens = b.opens; closes = b.closes; from = b.from })) same all in
           e ∙ (here ∙ (λ i. Some (record { manner = written_back b.manner i; node = b.node; token = b.token; opens = b.opens; closes = b.closes; from = b.from })));
     }

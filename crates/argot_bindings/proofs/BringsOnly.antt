@@ -6,7 +6,8 @@ use Rattle.argot_tree.specs.declared.tree.TreeNode.{TreeNode}
 use Rattle.argot_naming.specs.Nodes.{Spans, IsOf, IsChild, IsNext}
 use Rattle.argot_naming.specs.Blocks.{IsInnermost}
 use Rattle.argot_naming.specs.Locals.{value, type_, define, range, receive, parameter, switched, HasParams, receiver, handed, HasColon, of_case, of_default, IsNameOf, IsOnLeft, IsParameter, specifies_values, specifies_type, has_signature, names_parameter}
-use Rattle.argot_bindings.specs.declared.surroundings.Span.{Span}
+use Rattle.argot_bindings.specs.declared.blocks.Block.{Block}
+use Rattle.argot_bindings.specs.declared.blocks.Span.{Span}
 use Rattle.argot_bindings.specs.declared.tables.Found.{Found}
 use Rattle.argot_bindings.specs.declared.roles.Role.{Role}
 use Rattle.argot_bindings.specs.declared.roles.Role.TheVariants as roles
@@ -15,15 +16,16 @@ use Rattle.argot_bindings.specs.declared.brought.Manner.{Manner as Written}
 use Rattle.argot_bindings.specs.declared.brought.Manner.TheVariants as manners
 use Rattle.argot_bindings.specs.Keys.{key_of, fits, is_braces, is_named_guard, is_declared, is_values, AreKeys}
 use Rattle.argot_bindings.specs.Parents.{AreParents}
-use Rattle.argot_bindings.specs.Surroundings.{AreSurroundings}
+use Rattle.argot_bindings.specs.Blocks.{AreBlocks, span_in}
 use Rattle.argot_bindings.specs.Roles.{role_of}
 use Rattle.argot_bindings.specs.Brought.{IsBrought}
-use Rattle.argot_bindings.specs.Bringing.{found_at, entry_of, found_in, brought_in, by_statement, listed, by_function, function_at, by_owner, owner_at, by_list, list_at, function_of, received_in, received, by_above, declared_below, defined_from, begins_at, ends_at, by_clause, clause_at, by_expressions, used_below, switched_in, name_at, behind_values, behind_colon, by_switch, switch_above, by_role, by_node, bring_of}
+use Rattle.argot_bindings.specs.Bringing.{found_at, found_in, brought_in, by_statement, listed, by_function, function_at, by_owner, owner_at, by_list, list_at, function_of, received_in, received, by_above, declared_below, defined_from, begins_at, ends_at, by_clause, clause_at, by_expressions, used_below, switched_in, name_at, behind_values, behind_colon, by_switch, switch_above, by_role, by_node, bring_of}
 use Rattle.argot_bindings.proofs.Listed.{some_is}
 use Rattle.argot_bindings.proofs.RoleKinds.{are_values, are_kind, are_function, are_entry, only_define, only_range_define, only_receive_define, only_entries, only_signature, only_names, only_expressions, only_type_switch, only_case, only_default, only_declared, only_used, body_key, braces_kind, named_guard_kind, declared_kind, values_kind}
-use Rattle.argot_bindings.proofs.Finding.{spans_of, is_of, found_there, found_parent, found_key, found_span}
+use Rattle.argot_bindings.proofs.Finding.{spans_of, is_of, found_there, found_parent, found_key}
+use Rattle.argot_bindings.proofs.Around.{is_inside}
 
-module _ (tree : List TreeNode) (ps keys : List (Option ℕ)) (around : List (Option Span)) (parents_ok : AreParents tree ps) (keys_ok : AreKeys tree keys) (around_ok : AreSurroundings tree around) where
+module _ (tree : List TreeNode) (ps keys : List (Option ℕ)) (blocks : List Block) (parents_ok : AreParents tree ps) (keys_ok : AreKeys tree keys) (blocks_ok : AreBlocks tree blocks) where
   -- a node brings this
   abbrev Right : ℕ → Brought → Type 0
   Right k b = (b.node ≡ k) × IsBrought tree b
@@ -35,23 +37,23 @@ module _ (tree : List TreeNode) (ps keys : List (Option ℕ)) (around : List (Op
   abbrev There : Found → Type 0
   There f = slice_get tree f.at ≡ Some f.node
 
-  in_block_right : (at : ℕ) (manner : Written) (k token from : ℕ) (o : Option Span) → entry_of (slice_get around at) ≡ o → ((span : Span) → IsInnermost tree at span.opens span.closes → IsBrought tree (record { manner = manner; node = k; token = token; opens = span.opens; closes = span.closes; from = from })) → (b : Brought) → brought_in o manner k token from ≡ Some b → Right k b
+  in_block_right : (at : ℕ) (manner : Written) (k token from : ℕ) (o : Option Span) → span_in blocks at ≡ o → ((span : Span) → IsInnermost tree at span.opens span.closes → IsBrought tree (record { manner = manner; node = k; token = token; opens = span.opens; closes = span.closes; from = from })) → (b : Brought) → brought_in o manner k token from ≡ Some b → Right k b
   in_block_right at manner k token from None e make b g = absurd (cc)
   in_block_right at manner k token from (Some span) e make b g =
-      right_one k (record { manner = manner; node = k; token = token; opens = span.opens; closes = span.closes; from = from }) b (refl, make span (found_span tree around at span around_ok e)) g
+      right_one k (record { manner = manner; node = k; token = token; opens = span.opens; closes = span.closes; from = from }) b (refl, make span (is_inside tree blocks blocks_ok at span e)) g
 
-  statement_right : (k : ℕ) (n : TreeNode) (list stmt : Found) → Spans tree k nodes.DeclName n.token n.last → IsChild tree list.at k → Spans tree list.at nodes.Names list.node.token list.node.last → IsChild tree stmt.at list.at → There stmt → (role : Role) → role_of stmt.node.kind ≡ role → (b : Brought) → by_statement around k n.token stmt.node role ≡ Some b → Right k b
+  statement_right : (k : ℕ) (n : TreeNode) (list stmt : Found) → Spans tree k nodes.DeclName n.token n.last → IsChild tree list.at k → Spans tree list.at nodes.Names list.node.token list.node.last → IsChild tree stmt.at list.at → There stmt → (role : Role) → role_of stmt.node.kind ≡ role → (b : Brought) → by_statement blocks k n.token stmt.node role ≡ Some b → Right k b
   statement_right k n list stmt name among list_is under there roles.Values e b g =
       let names : IsNameOf tree stmt.at k n.token = record { list = list.at; from = list.node.token; to = list.node.last; last = n.last; under = under; is_list = list_is; among = among; is_name = name } in
       let is = is_of tree stmt.at stmt.node specifies_values there (are_values stmt.node.kind e) in
-      in_block_right stmt.node.token manners.Specified k n.token (stmt.node.last + 1) (entry_of (slice_get around stmt.node.token)) refl (λ span inner. value is names inner) b g
+      in_block_right stmt.node.token manners.Specified k n.token (stmt.node.last + 1) (span_in blocks stmt.node.token) refl (λ span inner. value is names inner) b g
   statement_right k n list stmt name among list_is under there roles.Define e b g =
       let names : IsNameOf tree stmt.at k n.token = record { list = list.at; from = list.node.token; to = list.node.last; last = n.last; under = under; is_list = list_is; among = among; is_name = name } in
       let is = spans_of tree stmt.at stmt.node nodes.Define there (only_define stmt.node.kind e) in
-      in_block_right stmt.node.token manners.Defined k n.token (stmt.node.last + 1) (entry_of (slice_get around stmt.node.token)) refl (λ span inner. define is names inner) b g
+      in_block_right stmt.node.token manners.Defined k n.token (stmt.node.last + 1) (span_in blocks stmt.node.token) refl (λ span inner. define is names inner) b g
   statement_right k n list stmt name among list_is under there role e b g = absurd (cc)
 
-  listed_right : (k : ℕ) (n : TreeNode) (list : Found) → Spans tree k nodes.DeclName n.token n.last → IsChild tree list.at k → Spans tree list.at nodes.Names list.node.token list.node.last → (o : Option Found) → found_in tree ps list.at ≡ o → (b : Brought) → listed around k n.token o ≡ Some b → Right k b
+  listed_right : (k : ℕ) (n : TreeNode) (list : Found) → Spans tree k nodes.DeclName n.token n.last → IsChild tree list.at k → Spans tree list.at nodes.Names list.node.token list.node.last → (o : Option Found) → found_in tree ps list.at ≡ o → (b : Brought) → listed blocks k n.token o ≡ Some b → Right k b
   listed_right k n list name among list_is None e b g = absurd (cc)
   listed_right k n list name among list_is (Some stmt) e b g =
       let found = found_parent tree ps list.at stmt parents_ok e in
@@ -131,18 +133,18 @@ module _ (tree : List TreeNode) (ps keys : List (Option ℕ)) (around : List (Op
   received_right k n entry name inside entry_is (Some f) e b g =
       parameter_right k n entry f name inside entry_is (list_right entry.at (found_in tree ps entry.at) refl f e) (found_in tree keys f.at) refl b g
 
-  declared_right : (k : ℕ) (n : TreeNode) → Spans tree k nodes.DeclName n.token n.last → (o : Option Found) → found_in tree ps k ≡ o → (b : Brought) → declared_below tree ps keys around k n.token o ≡ Some b → Right k b
+  declared_right : (k : ℕ) (n : TreeNode) → Spans tree k nodes.DeclName n.token n.last → (o : Option Found) → found_in tree ps k ≡ o → (b : Brought) → declared_below tree ps keys blocks k n.token o ≡ Some b → Right k b
   declared_right k n name None e b g = absurd (cc)
   declared_right k n name (Some x) e b g = go (role_of x.node.kind) refl g
     where
       found : IsChild tree x.at k × There x
       found = found_parent tree ps k x parents_ok e
 
-      go : (role : Role) → role_of x.node.kind ≡ role → by_above tree ps keys around k n.token x role ≡ Some b → Right k b
+      go : (role : Role) → role_of x.node.kind ≡ role → by_above tree ps keys blocks k n.token x role ≡ Some b → Right k b
       go roles.Names r h =
           listed_right k n x name found.0 (spans_of tree x.at x.node nodes.Names found.1 (only_names x.node.kind r)) (found_in tree ps x.at) refl b h
       go roles.Kind r h =
-          in_block_right x.node.token manners.Specified k n.token n.token (entry_of (slice_get around x.node.token)) refl
+          in_block_right x.node.token manners.Specified k n.token n.token (span_in blocks x.node.token) refl
           (λ span inner. type_ (is_of tree x.at x.node specifies_type found.1 (are_kind x.node.kind r)) found.0 name inner) b h
       go roles.Entry r h =
           received_right k n x name found.0 (is_of tree x.at x.node names_parameter found.1 (are_entry x.node.kind r)) (function_of tree ps x.at) refl b h
@@ -258,7 +260,7 @@ module _ (tree : List TreeNode) (ps keys : List (Option ℕ)) (around : List (Op
           switched_right k m x there found.0 found.1 (only_type_switch x.node.kind r) (behind_colon tree keys k m (role_of m.kind)) refl (name_at tree keys (found_in tree keys x.at)) refl b h
       go role r h = absurd (cc)
 
-  role_right : (k : ℕ) (n : TreeNode) → slice_get tree k ≡ Some n → (role : Role) → role_of n.kind ≡ role → (b : Brought) → by_role tree ps keys around k n role ≡ Some b → Right k b
+  role_right : (k : ℕ) (n : TreeNode) → slice_get tree k ≡ Some n → (role : Role) → role_of n.kind ≡ role → (b : Brought) → by_role tree ps keys blocks k n role ≡ Some b → Right k b
   role_right k n there roles.Declared r b g = declared_right k n (spans_of tree k n nodes.DeclName there (only_declared n.kind r)) (found_in tree ps k) refl b g
   role_right k n there roles.Used r b g = used_right k n (spans_of tree k n nodes.NameUse there (only_used n.kind r)) (found_in tree ps k) refl b g
   role_right k n there roles.Case r b g = switch_right k n there (found_in tree ps k) refl b g
@@ -266,9 +268,9 @@ module _ (tree : List TreeNode) (ps keys : List (Option ℕ)) (around : List (Op
   role_right k n there role r b g = absurd (cc)
 
   -- what the computation says is brought by node k
-  pub only_brought : (k : ℕ) (b : Brought) → bring_of tree ps keys around k ≡ Some b → (b.node ≡ k) × IsBrought tree b
+  pub only_brought : (k : ℕ) (b : Brought) → bring_of tree ps keys blocks k ≡ Some b → (b.node ≡ k) × IsBrought tree b
   only_brought k b g = go (slice_get tree k) refl g
     where
-      go : (o : Option TreeNode) → slice_get tree k ≡ o → by_node tree ps keys around k o ≡ Some b → Right k b
+      go : (o : Option TreeNode) → slice_get tree k ≡ o → by_node tree ps keys blocks k o ≡ Some b → Right k b
       go None e h = absurd (cc)
       go (Some n) e h = role_right k n e (role_of n.kind) refl b h

@@ -4,13 +4,9 @@ use Rattle.std.specs.Prelude.{slice_get}
 use Rattle.argot_tree.specs.declared.node_kind.NodeKind.{NodeKind}
 use Rattle.argot_tree.specs.declared.tree.TreeNode.{TreeNode}
 use Rattle.argot_naming.specs.Nodes.{Spans, IsOf, IsChild}
-use Rattle.argot_naming.specs.Blocks.{IsInnermost}
-use Rattle.argot_bindings.specs.declared.surroundings.Span.{Span}
 use Rattle.argot_bindings.specs.declared.tables.Found.{Found}
-use Rattle.argot_bindings.specs.Forms.{IsFormed}
 use Rattle.argot_bindings.specs.Keys.{key_of, fits, IsKeyChild, AreKeys}
 use Rattle.argot_bindings.specs.Parents.{AreParents}
-use Rattle.argot_bindings.specs.Surroundings.{AreSurroundings}
 use Rattle.argot_bindings.specs.Bringing.{found_with, found_at, entry_of, found_in}
 use Rattle.argot_bindings.proofs.Listed.{some_is}
 
@@ -84,18 +80,3 @@ pub get_some : {A : Type 0} (xs : List A) (k : ℕ) → k < length xs → (x : A
 get_some [] k h = absurd (omega arith)
 get_some (x ∷ xs) zero h = (x, refl)
 get_some (x ∷ xs) (suc k) h = get_some xs k (omega arith)
-
--- the innermost block around the first token of a node
-pub span_found : (tree : List TreeNode) (around : List (Option Span)) (k : ℕ) (n : TreeNode) (opens closes : ℕ) → IsFormed tree → AreSurroundings tree around → slice_get tree k ≡ Some n → IsInnermost tree n.token opens closes → entry_of (slice_get around n.token) ≡ Some (record { opens = opens; closes = closes })
-span_found tree around k n opens closes formed ok e inner =
-    let some = get_some around n.token (ok.within k n e) in
-    go some.0 some.1
-  where
-    go : (x : Option Span) → slice_get around n.token ≡ Some x → entry_of (slice_get around n.token) ≡ Some (record { opens = opens; closes = closes })
-    go None is = absurd (ok.outside n.token is opens closes inner.around)
-    go (Some span) is =
-        let same = formed.one_block n.token span.opens span.closes opens closes (ok.inside n.token span is) inner in
-        ap entry_of is ∙ (λ i. Some (record { opens = same.0 i; closes = same.1 i }))
-
-pub found_span : (tree : List TreeNode) (around : List (Option Span)) (token : ℕ) (span : Span) → AreSurroundings tree around → entry_of (slice_get around token) ≡ Some span → IsInnermost tree token span.opens span.closes
-found_span tree around token span ok e = ok.inside token span (entry_is (slice_get around token) span e)

@@ -137,6 +137,7 @@ formed t tokens spells =
     record {
       links = linked t tokens spells;
       ascends = λ j k m n l e f. (nodes_follow t tokens spells j k m n l e f).ascends;
+      apart = λ j k m n l e f full. (nodes_follow t tokens spells j k m n l e f).strictly full;
       one_block = λ token a b c d h k. one_block t tokens token a b c d spells h k;
       one_key = subst (λ ns. (p a b : ℕ) → IsKeyChild ns p a → IsKeyChild ns p b → a ≡ b) (sym spells.2) (one_key spells.0 (shaped tokens spells.1));
     }

@@ -4,7 +4,7 @@ use Rattle.std.specs.Prelude.{slice_get}
 use Rattle.std.proofs.lemmas.Bool.{cases_lt}
 use Rattle.std.proofs.lemmas.Option.{slice_get_past}
 use Rattle.argot_tree.specs.declared.tree.TreeNode.{TreeNode}
-use Rattle.argot_bindings.specs.declared.surroundings.Span.{Span}
+use Rattle.argot_bindings.specs.declared.blocks.Block.{Block}
 use Rattle.argot_bindings.specs.declared.brought.Brought.{Brought}
 use Rattle.argot_bindings.specs.declared.looked.Dotted.{Dotted}
 use Rattle.argot_bindings.specs.declared.tops.TopName.{TopName}
@@ -13,7 +13,7 @@ use Rattle.argot_bindings.specs.Forms.{IsFormed}
 use Rattle.argot_bindings.specs.Keys.{AreKeys}
 use Rattle.argot_bindings.specs.Marks.{AreMarks}
 use Rattle.argot_bindings.specs.Parents.{AreParents}
-use Rattle.argot_bindings.specs.Surroundings.{AreSurroundings}
+use Rattle.argot_bindings.specs.Blocks.{AreBlocks}
 use Rattle.argot_bindings.specs.Brought.{IsBrought}
 use Rattle.argot_bindings.specs.Bringing.{by_node, bring_of}
 use Rattle.argot_bindings.specs.declared.bindings.Looked.{Looked}
@@ -35,25 +35,25 @@ within tree k x at none e = elim (cases_lt k (length tree)) [
       absurd (cc)
 ]
 
-pub brought_grown : (tree : List TreeNode) (ps keys : List (Option ℕ)) (around : List (Option Span)) (k : ℕ) (xs ys : List Brought) (o : Option Brought) → IsFormed tree → AreParents tree ps → AreKeys tree keys → AreSurroundings tree around → ListsUpTo (λ (x : Brought). x.node) (IsBrought tree) k xs → o ≡ bring_of tree ps keys around k → ys ≡ added xs o → ListsUpTo (λ (x : Brought). x.node) (IsBrought tree) (k + 1) ys
-brought_grown tree ps keys around k xs ys o formed p q r h e f =
-    let by = brought_by tree ps keys around k o formed p q r e in
+pub brought_grown : (tree : List TreeNode) (ps keys : List (Option ℕ)) (blocks : List Block) (k : ℕ) (xs ys : List Brought) (o : Option Brought) → IsFormed tree → AreParents tree ps → AreKeys tree keys → AreBlocks tree blocks → ListsUpTo (λ (x : Brought). x.node) (IsBrought tree) k xs → o ≡ bring_of tree ps keys blocks k → ys ≡ added xs o → ListsUpTo (λ (x : Brought). x.node) (IsBrought tree) (k + 1) ys
+brought_grown tree ps keys blocks k xs ys o formed p q r h e f =
+    let by = brought_by tree ps keys blocks k o formed p q r e in
     subst (ListsUpTo (λ (x : Brought). x.node) (IsBrought tree) (k + 1)) (sym f) (grow (λ (x : Brought). x.node) (IsBrought tree) k xs o h by.sound by.complete)
 
-pub brought_listed : (tree : List TreeNode) (ps keys : List (Option ℕ)) (around : List (Option Span)) (k : ℕ) (xs : List Brought) → IsFormed tree → AreParents tree ps → AreKeys tree keys → AreSurroundings tree around → length tree ≤ k → ListsUpTo (λ (x : Brought). x.node) (IsBrought tree) k xs → ListsAll (λ (x : Brought). x.node) (IsBrought tree) xs
-brought_listed tree ps keys around k xs formed p q r low h =
+pub brought_listed : (tree : List TreeNode) (ps keys : List (Option ℕ)) (blocks : List Block) (k : ℕ) (xs : List Brought) → IsFormed tree → AreParents tree ps → AreKeys tree keys → AreBlocks tree blocks → length tree ≤ k → ListsUpTo (λ (x : Brought). x.node) (IsBrought tree) k xs → ListsAll (λ (x : Brought). x.node) (IsBrought tree) xs
+brought_listed tree ps keys blocks k xs formed p q r low h =
     all_listed (λ (x : Brought). x.node) (IsBrought tree) k (length tree) xs low h (λ x hx.
-    within tree x.node x (by_node tree ps keys around x.node) refl ((brought_by tree ps keys around x.node (bring_of tree ps keys around x.node) formed p q r refl).complete x refl hx))
+    within tree x.node x (by_node tree ps keys blocks x.node) refl ((brought_by tree ps keys blocks x.node (bring_of tree ps keys blocks x.node) formed p q r refl).complete x refl hx))
 
-pub tops_grown : (tree : List TreeNode) (ps : List (Option ℕ)) (around : List (Option Span)) (receivers : List Bool) (k : ℕ) (xs ys : List TopName) (o : Option TopName) → AreParents tree ps → AreSurroundings tree around → AreMarks tree wants.Parameters receivers → ListsUpTo (λ (x : TopName). x.node) (IsTopDeclared tree) k xs → o ≡ top_of tree ps around receivers k → ys ≡ added xs o → ListsUpTo (λ (x : TopName). x.node) (IsTopDeclared tree) (k + 1) ys
-tops_grown tree ps around receivers k xs ys o p q r h e f =
-    let by = top_right tree ps around receivers p q r k o e in
+pub tops_grown : (tree : List TreeNode) (ps : List (Option ℕ)) (blocks : List Block) (receivers : List Bool) (k : ℕ) (xs ys : List TopName) (o : Option TopName) → AreParents tree ps → AreBlocks tree blocks → AreMarks tree wants.Parameters receivers → ListsUpTo (λ (x : TopName). x.node) (IsTopDeclared tree) k xs → o ≡ top_of tree ps blocks receivers k → ys ≡ added xs o → ListsUpTo (λ (x : TopName). x.node) (IsTopDeclared tree) (k + 1) ys
+tops_grown tree ps blocks receivers k xs ys o p q r h e f =
+    let by = top_right tree ps blocks receivers p q r k o e in
     subst (ListsUpTo (λ (x : TopName). x.node) (IsTopDeclared tree) (k + 1)) (sym f) (grow (λ (x : TopName). x.node) (IsTopDeclared tree) k xs o h by.sound by.complete)
 
-pub tops_listed : (tree : List TreeNode) (ps : List (Option ℕ)) (around : List (Option Span)) (receivers : List Bool) (k : ℕ) (xs : List TopName) → AreParents tree ps → AreSurroundings tree around → AreMarks tree wants.Parameters receivers → length tree ≤ k → ListsUpTo (λ (x : TopName). x.node) (IsTopDeclared tree) k xs → ListsAll (λ (x : TopName). x.node) (IsTopDeclared tree) xs
-tops_listed tree ps around receivers k xs p q r low h =
+pub tops_listed : (tree : List TreeNode) (ps : List (Option ℕ)) (blocks : List Block) (receivers : List Bool) (k : ℕ) (xs : List TopName) → AreParents tree ps → AreBlocks tree blocks → AreMarks tree wants.Parameters receivers → length tree ≤ k → ListsUpTo (λ (x : TopName). x.node) (IsTopDeclared tree) k xs → ListsAll (λ (x : TopName). x.node) (IsTopDeclared tree) xs
+tops_listed tree ps blocks receivers k xs p q r low h =
     all_listed (λ (x : TopName). x.node) (IsTopDeclared tree) k (length tree) xs low h (λ x hx.
-    within tree x.node x (top_at tree ps around receivers x.node) refl ((top_right tree ps around receivers p q r x.node (top_of tree ps around receivers x.node) refl).complete x refl hx))
+    within tree x.node x (top_at tree ps blocks receivers x.node) refl ((top_right tree ps blocks receivers p q r x.node (top_of tree ps blocks receivers x.node) refl).complete x refl hx))
 
 pub dotted_grown : (tree : List TreeNode) (ps : List (Option ℕ)) (k : ℕ) (xs ys : List Dotted) (o : Option Dotted) → AreParents tree ps → ListsUpTo (λ (x : Dotted). x.node) (IsMemberName tree) k xs → o ≡ dotted_of tree ps k → ys ≡ added xs o → ListsUpTo (λ (x : Dotted). x.node) (IsMemberName tree) (k + 1) ys
 dotted_grown tree ps k xs ys o p h e f =

@@ -2,7 +2,7 @@
 -- definition says.
 use Rattle.std.proofs.Common.{◌≡◌, ℕ, ◌+◌, ◌<◌, ◌≤◌, List, length, Bool, true, false, Option, Some, None, inl, inr, refl, sym, ap, ◌∙◌, subst, arith}
 use Rattle.std.specs.Prelude.{◌⊎◌, slice_get, ◌&&◌}
-use Rattle.std.proofs.lemmas.Bool.{cases_eq}
+use Rattle.std.proofs.lemmas.Bool.{cases_eq, cases_lt}
 use Rattle.std.proofs.lemmas.Option.{slice_get_within}
 use Rattle.argot_tree.specs.declared.node_kind.NodeKind.{NodeKind}
 use Rattle.argot_tree.specs.declared.node_kind.NodeKind.TheVariants as nodes
@@ -23,7 +23,13 @@ use Rattle.argot_bindings.specs.Bringing.{found_at}
 use Rattle.argot_bindings.proofs.Listed.{some_is}
 use Rattle.argot_bindings.proofs.Finding.{spans_of, is_of, found_there, at_found, get_some}
 use Rattle.argot_bindings.proofs.RoleKinds.{only_dotted, only_path}
-use Rattle.argot_bindings.proofs.Surrounding.{lies_or}
+
+-- a number lies between two or apart from them
+pub lies_or : (from to k : ℕ) → ((from ≤ k) × (k ≤ to)) ⊎ ((k < from) ⊎ (to < k))
+lies_or from to k = elim (cases_lt k from) [
+  | inl low ↦ inr (inl low)
+  | inr high ↦ elim (cases_lt to k) [ inl behind ↦ inr (inr behind) | inr within ↦ inl (omega arith, omega arith) ]
+]
 
 type_params_kind : (kind : NodeKind) → is_type_params kind ≡ true → kind ≡ nodes.TypeParams
 type_params_kind nodes.TypeParams e = refl

@@ -5,9 +5,10 @@ pub mod Shaping
 pub mod ShapedTrees
 pub mod Forming
 pub mod Keying
-pub mod Surrounding
 pub mod RoleKinds
 pub mod Finding
+pub mod Outwards
+pub mod Around
 pub mod BringsAll
 pub mod BringsOnly
 pub mod Bringing
@@ -15,5 +16,6 @@ pub mod Marking
 pub mod LooksUp
 pub mod Topping
 pub mod Growing
+pub mod Enclosing
 pub mod Gathering
 pub mod Generic

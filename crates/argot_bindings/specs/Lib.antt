@@ -2,7 +2,7 @@ pub mod Links
 pub mod Parents
 pub mod Keys
 pub mod Forms
-pub mod Surroundings
+pub mod Blocks
 pub mod Roles
 pub mod Bringing
 pub mod Brought

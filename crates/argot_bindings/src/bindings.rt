@@ -1,7 +1,8 @@
-// What the nodes of one file bring into scope and look up, as lists.
+// The blocks of one file, and what its nodes bring into scope and look up, as lists.
 ghost use Rattle.std.specs.Prelude.{◌≡◌, List, OnOk, IfOk};
 ghost use Rattle.argot_tree.specs.declared.token.Token.{Token};
 ghost use Rattle.argot_tree.specs.Trees.{SpellsTree};
+ghost use Rattle.argot_bindings.specs.Blocks.{AreBlocks};
 ghost use Rattle.argot_bindings.specs.Brought.{IsBrought};
 ghost use Rattle.argot_bindings.specs.Forms.{IsFormed};
 ghost use Rattle.argot_bindings.specs.Generics.{seen_of};
@@ -9,16 +10,15 @@ ghost use Rattle.argot_bindings.specs.Keys.{AreKeys};
 ghost use Rattle.argot_bindings.specs.Listing.{added, ListsAll, IsSeen, IsMemberName, IsTopDeclared, AreBindings};
 ghost use Rattle.argot_bindings.specs.Marks.{AreMarks};
 ghost use Rattle.argot_bindings.specs.Parents.{AreParents};
-ghost use Rattle.argot_bindings.specs.Surroundings.{AreSurroundings};
 ghost use Rattle.argot_bindings.specs.declared.marks.Wanted.TheVariants.{Parameters};
 
+use crate::blocks::{Block, blocks_of};
 use crate::brought::{Brought, bring};
-use crate::generics::{generics_of, has_dot};
+use crate::generics::{count_tokens, generics_of, has_dot};
 use crate::keys::key_children;
 use crate::looked::{Dotted, is_key, looked_at, member_at};
 use crate::marks::{Wanted, marks_of};
 use crate::parents::parents_of;
-use crate::surroundings::{Span, surroundings_of};
 use crate::tops::{TopName, top_at};
 use argot_text::Memory;
 use argot_tree::{Tree, TreeNode};
@@ -32,11 +32,12 @@ pub struct Looked {
     pub key: bool,
 }
 
-/// What the nodes of a file bring into the blocks of functions, what they declare outside, which names they look up, and
-/// which members of packages; each list by node. For each token whether it stands in a declaration with type parameters,
-/// and whether the file imports a package under a dot.
+/// The blocks of a file's functions, what its nodes bring into these, what they declare outside, which names they look up,
+/// and which members of packages; each list by node. For each token whether it stands in a declaration with type
+/// parameters, and whether the file imports a package under a dot.
 #[derive(Debug, Drop)]
 pub struct Bindings {
+    pub blocks: Vec<Block>,
     pub brought: Vec<Brought>,
     pub tops: Vec<TopName>,
     pub looked: Vec<Looked>,
@@ -61,17 +62,17 @@ fn list_brought(
     nodes: &[TreeNode],
     parents: &[Option<usize>],
     keys: &[Option<usize>],
-    around: &[Option<Span>],
+    blocks: &[Block],
 ) -> Result<Vec<Brought>, Memory>
     requires formed { IsFormed nodes.now }
     requires parents { AreParents nodes.now parents.now }
     requires keys { AreKeys nodes.now keys.now }
-    requires around { AreSurroundings nodes.now around.now }
+    requires blocks { AreBlocks nodes.now blocks.now }
     ensures { IfOk result (λ v. ListsAll (λ x. x.node) (IsBrought nodes.now) v.items) }
 {
     let mut list = Vec::new(alloc);
     for k in 0..nodes.len() {
-        add(&mut list, bring(nodes, parents, keys, around, k))?;
+        add(&mut list, bring(nodes, parents, keys, blocks, k))?;
     }
     Ok(list)
 }
@@ -81,17 +82,17 @@ fn list_tops(
     alloc: Global,
     nodes: &[TreeNode],
     parents: &[Option<usize>],
-    around: &[Option<Span>],
+    blocks: &[Block],
     receivers: &[bool],
 ) -> Result<Vec<TopName>, Memory>
     requires parents { AreParents nodes.now parents.now }
-    requires around { AreSurroundings nodes.now around.now }
+    requires blocks { AreBlocks nodes.now blocks.now }
     requires receivers { AreMarks nodes.now Parameters receivers.now }
     ensures { IfOk result (λ v. ListsAll (λ x. x.node) (IsTopDeclared nodes.now) v.items) }
 {
     let mut list = Vec::new(alloc);
     for k in 0..nodes.len() {
-        add(&mut list, top_at(nodes, parents, around, receivers, k))?;
+        add(&mut list, top_at(nodes, parents, blocks, receivers, k))?;
     }
     Ok(list)
 }
@@ -150,15 +151,16 @@ pub fn bindings_of(alloc: Global, tree: &Tree) -> Result<Bindings, Memory>
     let nodes = tree.nodes.as_slice();
     let parents = parents_of(alloc, tree)?;
     let keys = key_children(alloc, tree, &parents)?;
-    let around = surroundings_of(alloc, tree)?;
+    let blocks = blocks_of(alloc, tree)?;
     let receivers = marks_of(alloc, tree, &parents, Wanted::Parameters)?;
     let marks = marks_of(alloc, tree, &parents, Wanted::TypeParameters)?;
-    let brought = list_brought(alloc, nodes, &parents, &keys, &around)?;
-    let tops = list_tops(alloc, nodes, &parents, &around, &receivers)?;
+    let brought = list_brought(alloc, nodes, &parents, &keys, &blocks)?;
+    let tops = list_tops(alloc, nodes, &parents, &blocks, &receivers)?;
     let looked = list_looked(alloc, nodes, &parents)?;
     let dotted = list_dotted(alloc, nodes, &parents)?;
-    let generics = generics_of(alloc, nodes, &marks, around.len())?;
+    let generics = generics_of(alloc, nodes, &marks, count_tokens(nodes))?;
     Ok(Bindings {
+        blocks,
         brought,
         tops,
         looked,

@@ -1,7 +1,7 @@
 // Declarations with type parameters, and imports under a dot.
 ghost use Rattle.std.specs.Prelude.{◌≡◌, ◌+◌, ◌<◌, ◌&&◌, length, slice_get, IfOk};
 ghost use Rattle.argot_naming.specs.Uses.{may_be_generic};
-ghost use Rattle.argot_bindings.specs.Generics.{PaintsTrue, is_true, dot_at, is_dot_of};
+ghost use Rattle.argot_bindings.specs.Generics.{BeginBefore, PaintsTrue, is_true, dot_at, is_dot_of};
 ghost use Rattle.argot_bindings.specs.Listing.{AreGenerics, AreGenericsUpTo, TellsDot};
 ghost use Rattle.argot_bindings.specs.Marks.{AreMarks};
 ghost use Rattle.argot_bindings.specs.Roles.{role_of};
@@ -22,6 +22,17 @@ fn paint_true(table: &mut [bool], from: u32, to: u32)
     for token in from as usize..end {
         table[token] = true;
     }
+}
+
+/// A number beyond all tokens at which nodes begin.
+pub fn count_tokens(nodes: &[TreeNode]) -> usize
+    ensures { BeginBefore nodes.now result }
+{
+    let mut count = 0;
+    for node in nodes {
+        count = count.max(node.token as usize + 1);
+    }
+    count
 }
 
 /// Whether declarations of this kind may have type parameters.

@@ -1,7 +1,9 @@
-//! What the nodes of one file bring into scope, and which names they look up: exact lists, each by its nodes in order.
+//! The blocks of one file's functions, what its nodes bring into scope, and which names they look up: exact lists, each by
+//! its nodes in order. The innermost block around a token is found by search.
 #![tactic(auto)]
 
 mod bindings;
+mod blocks;
 mod brought;
 mod generics;
 mod keys;
@@ -9,17 +11,16 @@ mod looked;
 mod marks;
 mod parents;
 mod roles;
-mod surroundings;
 mod tables;
 mod tops;
 
 pub use bindings::{Bindings, Looked, bindings_of};
+pub use blocks::{Block, Span, block_around, block_at, blocks_of, innermost, is_block};
 pub use brought::{Brought, Manner, bring};
 pub use keys::{Key, key_children};
 pub use looked::{Dotted, is_key, looked_at, member_at};
 pub use marks::{Wanted, marks_of};
 pub use parents::parents_of;
 pub use roles::Role;
-pub use surroundings::{Span, is_block, surround, surroundings_of};
 pub use tables::Found;
 pub use tops::{Sort, TopName, top_at};

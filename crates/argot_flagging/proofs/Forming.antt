@@ -25,6 +25,7 @@ nothing_formed =
     record {
       links = record { ahead = λ k c n e l. absurd (cc); within = λ k c n e l. absurd (cc); once = λ j k c m n low e f x y. absurd (cc); apart = λ k c n e f g. absurd (cc) };
       ascends = λ j k m n low e f. absurd (cc);
+      apart = λ j k m n low e f full. absurd (cc);
       one_block = λ token a b c d x y. let there = x.around.block.is.spans.there in absurd (cc);
       one_key = λ p a b x y. let there = x.above_there in absurd (cc);
     }

@@ -9,7 +9,7 @@ use Rattle.argot_naming.specs.Nodes.{IsOf}
 use Rattle.argot_naming.specs.Locals.{specifies_type}
 use Rattle.argot_naming.specs.Loaded.{count_nodes}
 use Rattle.argot_packages.proofs.Lists.{get_below, get_two, get_behind, get_before, get_last, get_either}
-use Rattle.argot_bindings.proofs.Surrounding.{lies_or}
+use Rattle.argot_bindings.proofs.Generic.{lies_or}
 use Rattle.argot_bindings.specs.declared.tables.Found.{Found}
 use Rattle.argot_bindings.specs.Parents.{AreParents}
 use Rattle.argot_flags.specs.Exact.{IsExact}

@@ -42,6 +42,6 @@ module _ (h : Handed) (main : List ℕ) (r : Reached) (t : Tops) (tops : AreTops
   resolved once known = record { has_main = tops.reach.has_main; right = nowhere once known }
 
 -- what holds after success, weakened
-pub on_ok : (r : Result (Unit {0}) NameFault) (P Q : Type 0) → (P → Q) → OnOk r P → OnOk r Q
+pub on_ok : {A : Type 0} (r : Result A NameFault) (P Q : Type 0) → (P → Q) → OnOk r P → OnOk r Q
 on_ok (Ok x) P Q f p = f p
 on_ok (Err e) P Q f p = tt

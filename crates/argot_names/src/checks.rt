@@ -1,9 +1,9 @@
-// What is wrong with the names of packages that are reached.
+// Which names of packages that are reached are declared again.
 ghost use Rattle.std.specs.Prelude.{◌≡◌, ◌<◌, ◌-◌, ◌^◌, ℕ, List, length, IfErr, OnOk};
 ghost use Rattle.argot_tree.specs.declared.lexed.Lexed.{Lexed};
 ghost use Rattle.argot_tree.specs.declared.tree.Tree.{Tree};
 ghost use Rattle.argot_naming.specs.Handed.{position_of};
-ghost use Rattle.argot_naming.specs.Faults.{Refuses, IsResolved, IsNowhere, Again, Unknown};
+ghost use Rattle.argot_naming.specs.Faults.{Refuses, IsNowhere, Again};
 ghost use Rattle.argot_packages.specs.Reads.{handed, bytes_at};
 ghost use Rattle.argot_tops.specs.Places.{place_of};
 ghost use Rattle.argot_tops.specs.Tops.{AreTops};
@@ -14,11 +14,10 @@ use argot_packages::bytes_at;
 use argot_reached::Reached;
 use argot_text::{Pos, Sources};
 use argot_tops::{Place, Tops, redeclared};
-use argot_uses::unresolved;
 use std::alloc::Global;
 
-// The line and column of a place.
-fn place_at(sources: &Sources, place: Place) -> Pos
+/// The line and column of a place.
+pub fn place_at(sources: &Sources, place: Place) -> Pos
     requires { (file : ℕ) → length (bytes_at sources.now file) < 2 ^ 32 - 1 }
     ensures { (lexed : List Lexed) (trees : List Tree) → result ≡ position_of (handed sources.now lexed trees) (place_of place) }
 {
@@ -29,8 +28,8 @@ fn place_at(sources: &Sources, place: Place) -> Pos
     pos_at(bytes_at(sources, place.file), spot)
 }
 
-// The first name that is declared again is a fault.
-fn check_again(
+/// The first name that is declared again is a fault.
+pub fn check_again(
     alloc: Global,
     sources: &Sources,
     reached: &Reached,
@@ -47,39 +46,5 @@ fn check_again(
         }),
         Ok(None) => Ok(()),
         Err(_) => Err(NameFault::Memory),
-    }
-}
-
-// The first name that means nothing is a fault.
-fn check_unknown(sources: &Sources, reached: &Reached, tops: &Tops) -> Result<(), NameFault>
-    requires short { (file : ℕ) → length (bytes_at sources.now file) < 2 ^ 32 - 1 }
-    requires tops { (lexed : List Lexed) × ((trees : List Tree) × ((main : List ℕ) × AreTops (handed sources.now lexed trees) main reached.now tops.now)) }
-    ensures fault { (lexed : List Lexed) (trees : List Tree) (main : List ℕ) → AreTops (handed sources.now lexed trees) main reached.now tops.now → IsNowhere (handed sources.now lexed trees) main Again → IfErr result (Refuses (handed sources.now lexed trees) main) }
-    ensures fine { (lexed : List Lexed) (trees : List Tree) (main : List ℕ) → AreTops (handed sources.now lexed trees) main reached.now tops.now → OnOk result (IsNowhere (handed sources.now lexed trees) main Unknown) }
-{
-    match unresolved(reached, tops) {
-        Ok(Some(place)) => Err(NameFault::Unresolved {
-            at: place_at(sources, place),
-        }),
-        Ok(None) => Ok(()),
-        Err(_) => Err(NameFault::Memory),
-    }
-}
-
-/// The first name that is declared again, else the first that means nothing, is a fault.
-pub fn check_scopes(
-    alloc: Global,
-    sources: &Sources,
-    reached: &Reached,
-    tops: &Tops,
-) -> Result<(), NameFault>
-    requires short { (file : ℕ) → length (bytes_at sources.now file) < 2 ^ 32 - 1 }
-    requires tops { (lexed : List Lexed) × ((trees : List Tree) × ((main : List ℕ) × AreTops (handed sources.now lexed trees) main reached.now tops.now)) }
-    ensures fault { (lexed : List Lexed) (trees : List Tree) (main : List ℕ) → AreTops (handed sources.now lexed trees) main reached.now tops.now → IfErr result (Refuses (handed sources.now lexed trees) main) }
-    ensures fine { (lexed : List Lexed) (trees : List Tree) (main : List ℕ) → AreTops (handed sources.now lexed trees) main reached.now tops.now → OnOk result (IsResolved (handed sources.now lexed trees) main) }
-{
-    match check_again(alloc, sources, reached, tops) {
-        Ok(()) => check_unknown(sources, reached, tops),
-        Err(fault) => Err(fault),
     }
 }

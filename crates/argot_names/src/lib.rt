@@ -2,7 +2,7 @@
 //!
 //! `load` meets `IsLoaded` of argot_naming: the packages that the main folder leads to, their declarations, and the
 //! declaration that each name stands for; and `Refuses`, of the faults of packages and names the first in order, at its
-//! first place. `resolve` tells whether there is a fault and lists nothing. Both are linear but for hashing. `stubs_named`
+//! first place. It is linear but for hashing, and looks each name up once. `stubs_named`
 //! meets `AreNamed` of argot_naming: the paths of the library that imports of reached packages find, in byte order and each
 //! once. The caller hands these texts over with the files and asks again, until no path is new. `flags` meets `AreFlags` of
 //! argot_naming: all that the subset leaves out of what was loaded, in order of place.
@@ -11,19 +11,16 @@
 mod checks;
 mod library;
 mod loading;
-mod resolving;
-mod sound;
 mod texts;
 
 pub use argot_flagging::flags;
 pub use argot_naming::{Feature, Flag, NameFault};
 pub use loading::load;
-pub use resolving::resolve;
 pub use texts::stubs_named;
 
 #[cfg(test)]
 mod flag_tests;
 #[cfg(test)]
-mod package_tests;
+mod load_tests;
 #[cfg(test)]
-mod resolve_tests;
+mod package_tests;

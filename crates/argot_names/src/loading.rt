@@ -1,22 +1,23 @@
 // The packages, the declarations and the uses of names.
-ghost use Rattle.std.specs.Prelude.{◌≡◌, ℕ, List, IfOk, IfErr, OnOk};
+ghost use Rattle.std.specs.Prelude.{◌≡◌, ◌<◌, ◌-◌, ◌^◌, ℕ, List, length, IfOk, IfErr, OnOk};
+ghost use Rattle.argot_tree.specs.declared.lexed.Lexed.{Lexed};
 ghost use Rattle.argot_naming.specs.Handed.{Handed};
 ghost use Rattle.argot_naming.specs.Agreeing.{Agrees, HasLibrary};
-ghost use Rattle.argot_naming.specs.Faults.{Refuses, IsResolved};
+ghost use Rattle.argot_naming.specs.Faults.{Refuses, IsResolved, IsNowhere, Again, Unknown};
 ghost use Rattle.argot_naming.specs.Loaded.{IsLoaded};
-ghost use Rattle.argot_packages.specs.Reads.{handed};
+ghost use Rattle.argot_packages.specs.Reads.{handed, bytes_at};
 ghost use Rattle.argot_reached.specs.Reached.{homes_of, IsReach};
 ghost use Rattle.argot_tops.specs.Tops.{AreTops};
 ghost use Rattle.argot_names.specs.Names.{AreNames};
 
-use crate::sound::sound_tops;
+use crate::checks::{check_again, place_at};
 use argot_decls::decls_of;
 use argot_naming::NameFault;
 use argot_reached::Reached;
 use argot_reaching::reach;
-use argot_standing::uses_of;
-use argot_text::{Memory, Sequence, Sources};
-use argot_tops::Tops;
+use argot_standing::standing_of;
+use argot_text::{Sequence, Sources};
+use argot_tops::{Tops, tops_of};
 use argot_tree::{Lexed, Tree};
 use argot_typed::{Decl, Packages, Use};
 use std::alloc::Global;
@@ -28,17 +29,60 @@ pub struct Names {
     pub uses: Vec<Use>,
 }
 
-// The declarations and the uses of names of packages.
-fn listed(alloc: Global, trees: &[Tree], reached: &Reached, tops: &Tops) -> Result<Names, Memory>
-    requires { (h : Handed) × (main : List ℕ) × AreTops h main reached.now tops.now }
-    ensures { (h : Handed) (main : List ℕ) → h.trees ≡ trees.now → AreTops h main reached.now tops.now → IfOk result (AreNames h (homes_of h reached.now)) }
+// The declarations of packages and what their names stand for; or the first name that stands for nothing. No name is declared
+// again.
+fn listed(
+    alloc: Global,
+    sources: &Sources,
+    trees: &[Tree],
+    reached: &Reached,
+    tops: &Tops,
+) -> Result<Names, NameFault>
+    requires short { (file : ℕ) → length (bytes_at sources.now file) < 2 ^ 32 - 1 }
+    requires tops { (lexed : List Lexed) × (main : List ℕ) × AreTops (handed sources.now lexed trees.now) main reached.now tops.now }
+    ensures ok { (lexed : List Lexed) (main : List ℕ) → AreTops (handed sources.now lexed trees.now) main reached.now tops.now → IfOk result (AreNames (handed sources.now lexed trees.now) (homes_of (handed sources.now lexed trees.now) reached.now)) }
+    ensures fine { (lexed : List Lexed) (main : List ℕ) → AreTops (handed sources.now lexed trees.now) main reached.now tops.now → OnOk result (IsNowhere (handed sources.now lexed trees.now) main Unknown) }
+    ensures fault { (lexed : List Lexed) (main : List ℕ) → AreTops (handed sources.now lexed trees.now) main reached.now tops.now → IsNowhere (handed sources.now lexed trees.now) main Again → IfErr result (Refuses (handed sources.now lexed trees.now) main) }
 {
-    let decls = decls_of(alloc, trees, reached, tops)?;
-    let uses = uses_of(alloc, trees, reached, tops, &decls)?;
-    Ok(Names { decls, uses })
+    let decls = match decls_of(alloc, trees, reached, tops) {
+        Ok(decls) => decls,
+        Err(_) => return Err(NameFault::Memory),
+    };
+    let standing = match standing_of(alloc, trees, reached, tops, &decls) {
+        Ok(standing) => standing,
+        Err(_) => return Err(NameFault::Memory),
+    };
+    let uses = standing.uses;
+    match standing.unresolved {
+        Some(place) => Err(NameFault::Unresolved {
+            at: place_at(sources, place),
+        }),
+        None => Ok(Names { decls, uses }),
+    }
 }
 
-// The names of packages that are reached.
+// The names of packages of which the package level is known; or the first name that is declared again, else the first that
+// stands for nothing.
+fn names_in(
+    alloc: Global,
+    sources: &Sources,
+    trees: &[Tree],
+    reached: &Reached,
+    tops: &Tops,
+) -> Result<Names, NameFault>
+    requires short { (file : ℕ) → length (bytes_at sources.now file) < 2 ^ 32 - 1 }
+    requires tops { (lexed : List Lexed) × (main : List ℕ) × AreTops (handed sources.now lexed trees.now) main reached.now tops.now }
+    ensures ok { (lexed : List Lexed) (main : List ℕ) → AreTops (handed sources.now lexed trees.now) main reached.now tops.now → IfOk result (AreNames (handed sources.now lexed trees.now) (homes_of (handed sources.now lexed trees.now) reached.now)) }
+    ensures fine { (lexed : List Lexed) (main : List ℕ) → AreTops (handed sources.now lexed trees.now) main reached.now tops.now → OnOk result (IsResolved (handed sources.now lexed trees.now) main) }
+    ensures fault { (lexed : List Lexed) (main : List ℕ) → AreTops (handed sources.now lexed trees.now) main reached.now tops.now → IfErr result (Refuses (handed sources.now lexed trees.now) main) }
+{
+    match check_again(alloc, sources, reached, tops) {
+        Ok(()) => listed(alloc, sources, trees, reached, tops),
+        Err(again) => Err(again),
+    }
+}
+
+// The names of packages that are reached; or what is wrong with them.
 fn names_of(
     alloc: Global,
     sources: &Sources,
@@ -52,12 +96,8 @@ fn names_of(
     ensures fine { (main : List ℕ) → IsReach (handed sources.now lexed.now trees.now) main reached.now → OnOk result (IsResolved (handed sources.now lexed.now trees.now) main) }
     ensures fault { (main : List ℕ) → IsReach (handed sources.now lexed.now trees.now) main reached.now → IfErr result (Refuses (handed sources.now lexed.now trees.now) main) }
 {
-    let tops = match sound_tops(alloc, sources, lexed, trees, reached) {
-        Ok(tops) => tops,
-        Err(fault) => return Err(fault),
-    };
-    match listed(alloc, trees, reached, &tops) {
-        Ok(names) => Ok(names),
+    match tops_of(alloc, sources, lexed, trees, reached) {
+        Ok(tops) => names_in(alloc, sources, trees, reached, &tops),
         Err(_) => Err(NameFault::Memory),
     }
 }
@@ -98,8 +138,9 @@ fn load_in(
 }
 
 /// The packages that the main folder's imports lead to, their declarations, and the declaration that each name stands for
-/// (Go specification: Packages, Declarations and scope); or what is wrong with packages and names at its first place, as
-/// `resolve` has it. Want of memory may be answered at any time.
+/// (Go specification: Packages, Declarations and scope); or what is wrong with packages and names, at its first place: no main
+/// function, a package clause that differs, an import that finds nothing, an import cycle, a name declared again, a name that
+/// means nothing, in this order. Want of memory may be answered at any time.
 pub fn load(
     alloc: Global,
     sources: &Sources,

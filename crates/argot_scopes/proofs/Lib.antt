@@ -3,7 +3,6 @@ pub mod Repeating
 pub mod Answering
 pub mod Earlier
 pub mod Tabling
-pub mod Outers
 pub mod Within
 pub mod Linking
 pub mod Seeking

@@ -1,40 +1,40 @@
 -- The blocks around a token, from the innermost outwards.
-use Rattle.std.proofs.Common.{◌≡◌, ℕ, ◌+◌, ◌<◌, ◌≤◌, List, length, Option, Some, None, inl, inr, refl, sym, ap, ◌∙◌, subst, arith}
+use Rattle.std.proofs.Common.{◌≡◌, ℕ, ◌+◌, ◌<◌, ◌≤◌, List, length, Option, Some, None, inl, inr, refl, sym, subst, arith}
 use Rattle.std.specs.Prelude.{slice_get}
 use Rattle.std.proofs.lemmas.Bool.{cases_eq}
 use Rattle.std.proofs.lemmas.Option.{slice_get_within}
-use Rattle.std.proofs.lemmas.Bool.{cases_lt}
 use Rattle.argot_naming.specs.Blocks.{IsAround}
 use Rattle.argot_naming.proofs.Nesting.{blocks_nest}
+use Rattle.argot_bindings.specs.declared.blocks.Block.{Block}
 use Rattle.argot_bindings.specs.declared.brought.Brought.{Brought}
-use Rattle.argot_bindings.specs.declared.surroundings.Span.{Span}
+use Rattle.argot_bindings.specs.Blocks.{IsInnermostIn}
 use Rattle.argot_bindings.specs.Brought.{manner_of}
-use Rattle.argot_bindings.specs.Bringing.{entry_of}
-use Rattle.argot_bindings.proofs.Finding.{get_some}
+use Rattle.argot_bindings.proofs.Outwards.{height, one_there, stands_before}
 use Rattle.argot_scopes.specs.declared.file.FileNames.{FileNames}
 use Rattle.argot_scopes.specs.Names.{AreNames}
-use Rattle.argot_scopes.specs.Enclosing.{IsOuter}
 use Rattle.argot_scopes.specs.Meant.{IsScoped, IsBest, IsBestFrom}
 use Rattle.argot_scopes.proofs.Within.{comes_within}
-
--- one more than the first token of a block, or none
-abbrev pub height : Option Span → ℕ
-height None = 0
-height (Some s) = s.opens + 1
 
 module _ (n : FileNames) (token : ℕ) (name : List ℕ) where
   abbrev Scoped : ℕ → Brought → Type 0
   Scoped = IsScoped n.bytes.now n.tokens.now n.bindings.brought.items n.news.items token name
 
+  -- block k
+  abbrev pub At : ℕ → Block → Type 0
+  At k s = slice_get n.bindings.blocks.items k ≡ Some s
+
   -- each declaration in scope is of this block, or of one around it
-  pub record Reaches (block : Option Span) : Type 0 where
-    pub there : (s : Span) → block ≡ Some s → IsAround n.tree.now.nodes token s.opens s.closes
-    pub within : (k : ℕ) (b : Brought) (s : Span) → Scoped k b → block ≡ Some s → b.opens ≤ s.opens
-    pub none : (k : ℕ) (b : Brought) → Scoped k b → block ≡ None → ⊥
+  pub record Reaches (at : Option ℕ) : Type 0 where
+    pub there : (k : ℕ) → at ≡ Some k → (s : Block) × At k s × IsAround n.tree.now.nodes token s.opens s.closes
+    pub within : (j k : ℕ) (b : Brought) (s : Block) → Scoped j b → at ≡ Some k → At k s → b.opens ≤ s.opens
+    pub none : (j : ℕ) (b : Brought) → Scoped j b → at ≡ None → ⊥
 
 module _ (n : FileNames) (names : AreNames n) (token : ℕ) (name : List ℕ) where
   abbrev Here : ℕ → Brought → Type 0
   Here = Scoped n token name
+
+  abbrev blocks : List Block
+  blocks = n.bindings.blocks.items
 
   -- the block of a declaration in scope is around the token
   around : (k : ℕ) (b : Brought) → Here k b → IsAround n.tree.now.nodes token b.opens b.closes
@@ -42,107 +42,83 @@ module _ (n : FileNames) (names : AreNames n) (token : ℕ) (name : List ℕ) wh
       let w = comes_within n.tree.now names.spelled names.spells (manner_of b.manner) b.node b.token b.opens b.closes b.from (names.brings.brought.sound b (k, s.there)) in
       record { block = w.0; from = omega (arith, w.1, s.is.from); to = s.is.to }
 
-  pub first_reaches : (block : Option Span) → block ≡ entry_of (slice_get n.blocks.around.items token) → Reaches n token name block
-  first_reaches block is = by (slice_get n.blocks.around.items token) refl
-    where
-      by : (x : Option (Option Span)) → slice_get n.blocks.around.items token ≡ x → Reaches n token name block
-      by None e =
-          let none : block ≡ None = is ∙ ap entry_of e in
-          record {
-            there = λ s f. absurd (cc);
-            within = λ k b s h f. absurd (cc);
-            none = λ k b h f. elim (cases_lt token (length n.blocks.around.items)) [
-              | inl less ↦ absurd (past less)
-              | inr more ↦
-                  let a = around k b h in
-                  let end = names.blocks.around_within a.block.node (record { kind = a.block.is.kind; token = b.opens; last = b.closes; first = a.block.is.spans.first; next = a.block.is.spans.next }) a.block.is.spans.there in
-                  absurd (omega (arith, end.1, a.to, more))
-            ];
-          }
-        where
-          past : token < length n.blocks.around.items → ⊥
-          past less =
-              let got = get_some n.blocks.around.items token less in
-              let some = got.1 in
-              absurd (cc (e, some))
-      by (Some None) e =
-          let none : block ≡ None = is ∙ ap entry_of e in
-          record {
-            there = λ s f. absurd (cc);
-            within = λ k b s h f. absurd (cc);
-            none = λ k b h f. names.blocks.around.outside token e b.opens b.closes (around k b h);
-          }
-      by (Some (Some span)) e =
-          let some : block ≡ Some span = is ∙ ap entry_of e in
-          let inner = names.blocks.around.inside token span e in
-          record {
-            there = λ s f. subst (λ (x : Span). IsAround n.tree.now.nodes token x.opens x.closes) (same_span span s (sym some ∙ f)) inner.around;
-            within = λ k b s h f. subst (λ (x : Span). b.opens ≤ x.opens) (same_span span s (sym some ∙ f)) (inner.innermost b.opens b.closes (around k b h));
-            none = λ k b h f. absurd (cc);
-          }
-        where
-          same_span : (a c : Span) → Some a ≡ Some c → a ≡ c
-          same_span a c f = cc
-
-  pub outer_of : (s : Span) (block r : Option Span) → Reaches n token name block → block ≡ Some s → slice_get n.blocks.outers.items s.opens ≡ Some r → IsOuter n.tree.now.nodes s.opens r
-  outer_of s block r h e got = names.blocks.outers s.opens s.closes r (h.there s e).block got
-
-  pub next_reaches : (s : Span) (block r : Option Span) → Reaches n token name block → block ≡ Some s → slice_get n.blocks.outers.items s.opens ≡ Some r → IsBestFrom n.bytes.now n.tokens.now n.bindings.brought.items n.news.items token name s.opens 0 None → Reaches n token name r
-  next_reaches s block r h e got nothing =
-      let here = h.there s e in
-      let outer = outer_of s block r h e got in
+  pub first_reaches : (at : Option ℕ) → IsInnermostIn n.tree.now.nodes blocks token at → Reaches n token name at
+  first_reaches at h =
       record {
-        there = λ o f.
-            let a = outer.inside o f in
-            let nest = blocks_nest n.tree.now names.spelled o.opens o.closes s.opens s.closes names.spells a.0.block here.block a.1 a.0.to in
-            record { block = a.0.block; from = omega (arith, a.1, here.from); to = omega (arith, nest, here.to) };
-        within = λ k b o c f. outer.innermost o b.opens b.closes f (at_start k b c) (lower k b c);
-        none = λ k b c f. outer.outside b.opens b.closes f (at_start k b c) (lower k b c);
+        there = λ k e.
+            let w = h.inside k e in
+            (w.0, w.1, w.2.around);
+        within = λ j k b s c e f.
+            let w = h.inside k e in
+            subst (λ (x : Block). b.opens ≤ x.opens) (one_there blocks k w.0 s w.1 f) (w.2.innermost b.opens b.closes (around j b c));
+        none = λ j b c e. h.outside e b.opens b.closes (around j b c);
+      }
+
+  -- the block at which the walk stands
+  pub here_is : (at : Option ℕ) (k : ℕ) (s : Block) → Reaches n token name at → at ≡ Some k → At n token name k s → IsAround n.tree.now.nodes token s.opens s.closes
+  here_is at k s h e f =
+      let w = h.there k e in
+      subst (λ (x : Block). IsAround n.tree.now.nodes token x.opens x.closes) (one_there blocks k w.0 s w.1 f) w.2
+
+  pub in_list : (at : Option ℕ) (k : ℕ) → Reaches n token name at → at ≡ Some k → k < length blocks
+  in_list at k h e =
+      let w = h.there k e in
+      slice_get_within blocks k w.0 w.1
+
+  pub next_reaches : (at : Option ℕ) (k : ℕ) (s : Block) → Reaches n token name at → at ≡ Some k → At n token name k s → IsBestFrom n.bytes.now n.tokens.now n.bindings.brought.items n.news.items token name s.opens 0 None → Reaches n token name s.outer
+  next_reaches at k s h e f nothing =
+      let here = here_is at k s h e f in
+      let outer = names.brings.blocks.outers k s f in
+      record {
+        there = λ o g.
+            let w = outer.inside o g in
+            let nest = blocks_nest n.tree.now names.spelled w.0.opens w.0.closes s.opens s.closes names.spells w.2.block here.block w.3 w.2.to in
+            (w.0, w.1, record { block = w.2.block; from = omega (arith, w.3, here.from); to = omega (arith, nest, here.to) });
+        within = λ j o b r c g i. outer.innermost o r b.opens b.closes g i (at_start j b c) (lower j b c);
+        none = λ j b c g. outer.outside b.opens b.closes g (at_start j b c) (lower j b c);
       }
     where
-      lower : (k : ℕ) (b : Brought) → Here k b → b.opens < s.opens
-      lower k b c = elim (cases_eq b.opens s.opens) [
-        | inl same ↦ absurd (nothing.none b k refl (omega arith) c same)
-        | inr apart ↦ omega (arith, apart, h.within k b s c e)
+      lower : (j : ℕ) (b : Brought) → Here j b → b.opens < s.opens
+      lower j b c = elim (cases_eq b.opens s.opens) [
+        | inl same ↦ absurd (nothing.none b j refl (omega arith) c same)
+        | inr apart ↦ omega (arith, apart, h.within j k b s c e f)
       ]
 
-      at_start : (k : ℕ) (b : Brought) → Here k b → IsAround n.tree.now.nodes s.opens b.opens b.closes
-      at_start k b c =
-          let a = around k b c in
-          record { block = a.block; from = omega (arith, lower k b c); to = omega (arith, a.to, (h.there s e).from) }
+      at_start : (j : ℕ) (b : Brought) → Here j b → IsAround n.tree.now.nodes s.opens b.opens b.closes
+      at_start j b c =
+          let a = around j b c in
+          record { block = a.block; from = omega (arith, lower j b c); to = omega (arith, a.to, (here_is at k s h e f).from) }
 
-  pub lowers : (s : Span) (block r : Option Span) → Reaches n token name block → block ≡ Some s → slice_get n.blocks.outers.items s.opens ≡ Some r → height r < height block
-  lowers s block r h e got = subst (λ x. height r < height x) (sym e) (by r refl)
+  pub lowers : (at : Option ℕ) (k : ℕ) (s : Block) → at ≡ Some k → At n token name k s → height s.outer < height at
+  lowers at k s e f =
+      subst (λ x. height s.outer < height x) (sym e) (by s.outer refl)
     where
-      by : (x : Option Span) → r ≡ x → height x < s.opens + 1
-      by None f = omega arith
-      by (Some o) f = omega (arith, ((outer_of s block r h e got).inside o f).1)
-
-  pub in_table : (s : Span) (block : Option Span) → Reaches n token name block → block ≡ Some s → s.opens < length n.blocks.outers.items
-  in_table s block h e =
-      let b = (h.there s e).block in
-      (names.blocks.outers_within b.node (record { kind = b.is.kind; token = s.opens; last = s.closes; first = b.is.spans.first; next = b.is.spans.next }) b.is.spans.there).0
+      by : (o : Option ℕ) → s.outer ≡ o → height o < k + 1
+      by None g = omega arith
+      by (Some o) g =
+          let w = (names.brings.blocks.outers k s f).inside o g in
+          omega (arith, stands_before blocks names.brings.blocks.ascend o k w.0 s w.1 f w.3)
 
   -- the block has it
-  pub found_here : (s : Span) (block : Option Span) (b : Brought) → Reaches n token name block → block ≡ Some s → IsBestFrom n.bytes.now n.tokens.now n.bindings.brought.items n.news.items token name s.opens 0 (Some b)
+  pub found_here : (at : Option ℕ) (k : ℕ) (s : Block) (b : Brought) → Reaches n token name at → at ≡ Some k → At n token name k s → IsBestFrom n.bytes.now n.tokens.now n.bindings.brought.items n.news.items token name s.opens 0 (Some b)
       → IsBest n.bytes.now n.tokens.now n.bindings.brought.items n.news.items token name (length n.bindings.brought.items) (Some b)
-  found_here s block b h e found =
+  found_here at k s b h e f found =
       record {
-        there = λ a f.
-            let w = found.there a f in
+        there = λ a g.
+            let w = found.there a g in
             (w.0, slice_get_within n.bindings.brought.items w.0 a w.1.there, w.1);
-        best = λ a other k f l c.
-            let w = found.there a f in
+        best = λ a other j g l c.
+            let w = found.there a g in
             elim (cases_eq other.opens s.opens) [
-              | inl same ↦ found.best a other k f (omega arith) c same
-              | inr apart ↦ inl (omega (arith, apart, h.within k other s c e, w.2))
+              | inl same ↦ found.best a other j g (omega arith) c same
+              | inr apart ↦ inl (omega (arith, apart, h.within j k other s c e f, w.2))
             ];
-        none = λ other k f l c. absurd (cc);
+        none = λ other j g l c. absurd (cc);
       }
 
   -- no block has it
-  pub found_nowhere : (block : Option Span) → Reaches n token name block → block ≡ None → IsBest n.bytes.now n.tokens.now n.bindings.brought.items n.news.items token name (length n.bindings.brought.items) None
-  found_nowhere block h e =
+  pub found_nowhere : (at : Option ℕ) → Reaches n token name at → at ≡ None → IsBest n.bytes.now n.tokens.now n.bindings.brought.items n.news.items token name (length n.bindings.brought.items) None
+  found_nowhere at h e =
       record {
         there = λ a f. absurd (cc);
         best = λ a other k f l c. absurd (cc);

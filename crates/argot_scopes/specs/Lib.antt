@@ -7,4 +7,3 @@ pub mod Again
 pub mod Names
 pub mod Earliest
 pub mod Tables
-pub mod Enclosing

@@ -4,7 +4,6 @@ use Rattle.argot_tree.specs.declared.token.Token.{Token}
 use Rattle.argot_tree.specs.Trees.{SpellsTree}
 use Rattle.argot_bindings.specs.Listing.{AreBindings}
 use Rattle.argot_scopes.specs.declared.file.FileNames.{FileNames}
-use Rattle.argot_scopes.specs.Enclosing.{AreBlocks}
 use Rattle.argot_scopes.specs.News.{AreNews}
 use Rattle.argot_scopes.specs.Tables.{AreFirstNames, AreLinks}
 
@@ -16,4 +15,3 @@ pub record AreNames (n : FileNames) : Type 0 where
   pub first_names : AreFirstNames n.bytes.now n.tokens.now n.bindings.brought.items (length n.bindings.brought.items) n.firsts
   pub are_new : AreNews n.bytes.now n.tokens.now n.bindings.brought.items n.news.items
   pub links : AreLinks n.bytes.now n.tokens.now n.bindings.brought.items n.news.items n.links
-  pub blocks : AreBlocks n.tree.now.nodes n.blocks

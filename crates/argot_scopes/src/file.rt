@@ -8,7 +8,6 @@ ghost use Rattle.argot_scopes.specs.Files.{file_of, MeansLocal, MeansNoLocal, Is
 ghost use Rattle.argot_scopes.specs.Names.{AreNames};
 
 use crate::again::first_again;
-use crate::blocks::{Blocks, blocks_of};
 use crate::earliest::earliest_of;
 use crate::firsts::firsts_of;
 use crate::links::{Links, links_of};
@@ -32,8 +31,6 @@ pub struct FileNames<'a> {
     pub firsts: IndexMap<(u32, &'a [u8]), usize>,
     /// The new names of each block and text.
     pub links: Links<'a>,
-    /// The innermost block around each token and around each block.
-    pub blocks: Blocks,
 }
 
 /// The names of a file.
@@ -53,7 +50,6 @@ pub fn names_of<'a>(
     let firsts = firsts_of(alloc, bytes, tokens, &bindings.brought)?;
     let news = news_of(alloc, bytes, tokens, &bindings.brought, &firsts)?;
     let links = links_of(alloc, bytes, tokens, &bindings.brought, &news)?;
-    let blocks = blocks_of(alloc, tree)?;
     Ok(FileNames {
         bytes,
         tokens,
@@ -62,7 +58,6 @@ pub fn names_of<'a>(
         news,
         firsts,
         links,
-        blocks,
     })
 }
 

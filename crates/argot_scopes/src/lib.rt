@@ -3,7 +3,6 @@
 #![tactic(auto)]
 
 mod again;
-mod blocks;
 mod earliest;
 mod file;
 mod firsts;
@@ -13,7 +12,6 @@ mod news;
 mod texts;
 
 pub use again::first_again;
-pub use blocks::{Blocks, blocks_of};
 pub use earliest::{earliest_of, has_earlier};
 pub use file::{FileNames, first_of, is_passed_over, meant_at, names_of, redeclared};
 pub use firsts::firsts_of;

@@ -3,14 +3,12 @@ ghost use Rattle.std.specs.Prelude.{◌≡◌, ◌↔◌, ◌<◌, IsTrue, Some,
 ghost use Rattle.argot_scopes.specs.Meant.{IsInScope, IsAhead, IsBest, IsBestFrom, IsBetter};
 ghost use Rattle.argot_scopes.specs.Considering.{IsConsidered};
 ghost use Rattle.argot_scopes.specs.Names.{AreNames};
-ghost use Rattle.argot_bindings.specs.Bringing.{entry_of};
 
-use crate::blocks::span_at;
 use crate::file::FileNames;
 use crate::firsts::item_at;
 use crate::links::number_at;
 use crate::texts::{is_blank, is_spelled};
-use argot_bindings::{Brought, Span};
+use argot_bindings::{Brought, block_at, innermost};
 use argot_tree::Token;
 
 /// Whether the item has this name, which isn't `_`, and is in scope at the token.
@@ -80,28 +78,20 @@ fn block_meant(names: &FileNames, opens: u32, token: u32, name: &[u8]) -> Option
     best
 }
 
-/// The innermost block around the token, where there is one.
-fn block_at(around: &[Option<Span>], token: u32) -> Option<Span>
-    ensures { result ≡ entry_of (slice_get around.now token) }
-{
-    match around.get(token as usize) {
-        Some(span) => *span,
-        None => None,
-    }
-}
-
 /// The declaration in a function that the name means at the token: the innermost one that is in scope there, and the first
 /// of its block; none where none is in scope. It looks into each block around the token, from the innermost outwards.
 pub fn local_meant(names: &FileNames, token: u32, name: &[u8]) -> Option<Brought>
     requires { AreNames names.now }
     ensures { IsBest names.now.bytes.now names.now.tokens.now names.now.bindings.brought.items names.now.news.items token name.now (length names.now.bindings.brought.items) result }
 {
-    let mut block = block_at(&names.blocks.around, token);
-    while let Some(span) = block {
-        if let Some(b) = block_meant(names, span.opens, token, name) {
+    let blocks = names.bindings.blocks.as_slice();
+    let mut at = innermost(blocks, token);
+    while let Some(k) = at {
+        let block = block_at(blocks, k);
+        if let Some(b) = block_meant(names, block.opens, token, name) {
             return Some(b);
         }
-        block = span_at(&names.blocks.outers, span.opens);
+        at = block.outer;
     }
     None
 }

@@ -35,7 +35,7 @@ use Rattle.argot_uses.proofs.Faulty.{none_exactly}
 use Rattle.argot_standing.specs.Numbers.{IsNumberOf, IsMeantBy, StandsBy, IsExactlyUnless}
 use Rattle.argot_standing.proofs.Numbering.{some_is}
 use Rattle.argot_standing.proofs.NodeRoles.{dotted_role, brings_role, brought_there}
-use Rattle.argot_standing.proofs.Standing.{one_listed, one_first, one_member, lone_means, lone_stands, member_means, assigned_means}
+use Rattle.argot_standing.proofs.NodeMeanings.{one_listed, one_first, one_member, lone_means, lone_stands, member_means, assigned_means}
 
 module _ (h : Handed) (home : Home) (decls : List Decl) (file : ℕ) (n : FileNames) (is : IsNamesOf h file n) where
   abbrev tree : List TreeNode
@@ -62,16 +62,12 @@ module _ (h : Handed) (home : Home) (decls : List Decl) (file : ℕ) (n : FileNa
           complete = λ x not i. absurd ((lone_means h home file l.node l.token i.meant looked (plain not) i.holds).named (sym e ∙ blank));
         }
 
-    pub lone_exactly : (name : List ℕ) (r : Option ℕ) → name ≡ text l.token → (name ≡ codes "_" → ⊥) → (Qualified → ⊥) → IsExactly (IsMeantBy (Means h home file l.token name) h decls) r → IsExactlyUnless Qualified (StandsBy h home decls file l.node) r
-    lone_exactly name r e named not exactly =
+    pub lone_exactly : (r : Option ℕ) → (text l.token ≡ codes "_" → ⊥) → (Qualified → ⊥) → IsExactly (IsMeantBy (Means h home file l.token (text l.token)) h decls) r → IsExactlyUnless Qualified (StandsBy h home decls file l.node) r
+    lone_exactly r named not exactly =
         record {
           sound = λ x f.
               let i = exactly.sound x f in
-              record {
-                meant = i.meant;
-                holds = lone_stands h home file l.node l.token i.meant looked (plain not) (λ b. named (e ∙ b)) (subst (λ t. Means h home file l.token t i.meant) e i.holds);
-                is = i.is;
-              };
+              record { meant = i.meant; holds = lone_stands h home file l.node l.token i.meant looked (plain not) named i.holds; is = i.is };
           only = λ x y f i. some_is x y (sym f ∙ whole y i);
           complete = λ x unless i. whole x i;
         }
@@ -79,7 +75,7 @@ module _ (h : Handed) (home : Home) (decls : List Decl) (file : ℕ) (n : FileNa
         whole : (x : ℕ) → StandsBy h home decls file l.node x → r ≡ Some x
         whole x i =
             let m = lone_means h home file l.node l.token i.meant looked (plain not) i.holds in
-            exactly.complete x (record { meant = i.meant; holds = subst (λ t. Means h home file l.token t i.meant) (sym e) m.means; is = i.is })
+            exactly.complete x (record { meant = i.meant; holds = m.means; is = i.is })
 
   module _ (d : Dotted) (named : IsMemberName n.tree.now.nodes d) where
     dotted : IsDotted tree d.token d.member d.node
@@ -108,23 +104,23 @@ module _ (h : Handed) (home : Home) (decls : List Decl) (file : ℕ) (n : FileNa
           let path : m.path ≡ i.import_.path = i.only m.path (subst (λ t. IsOfPackage h home file t m.path) at.0 m.of_package) in
           (m.other, m.declared, subst (λ p. IsMember h p (text d.member) m.other m.declared) path (subst (λ t. IsMember h m.path (text t) m.other m.declared) at.1 m.is), m.meant_is)
 
-      pub no_member : (name : List ℕ) (o : Option Top) → name ≡ text d.member → o ≡ None → IsMemberMeant h i.import_.path name o → IsExactly (StandsBy h home decls file d.node) None
-      no_member name _ e f (member_some m first) = absurd (cc)
-      no_member name _ e f (member_none none) =
+      pub no_member : (o : Option Top) → o ≡ None → IsMemberMeant h i.import_.path (text d.member) o → IsExactly (StandsBy h home decls file d.node) None
+      no_member _ f (member_some m first) = absurd (cc)
+      no_member _ f (member_none none) =
           none_exactly (StandsBy h home decls file d.node) (λ x s.
           let m = of_import s.meant s.holds in
-          none m.0 m.1 (subst (λ t. IsMember h i.import_.path t m.0 m.1) (sym e) m.2))
+          none m.0 m.1 m.2)
 
-      member_of : (name : List ℕ) (o : Option Top) (top : Top) → o ≡ Some top → IsMemberMeant h i.import_.path name o → IsMember h i.import_.path name top.file top.node
-      member_of name _ top f (member_some {top = t} m first) = subst (λ (x : Top). IsMember h i.import_.path name x.file x.node) (some_is t top f) m
-      member_of name _ top f (member_none none) = absurd (cc)
+      member_of : (o : Option Top) (top : Top) → o ≡ Some top → IsMemberMeant h i.import_.path (text d.member) o → IsMember h i.import_.path (text d.member) top.file top.node
+      member_of _ top f (member_some {top = t} m first) = subst (λ (x : Top). IsMember h i.import_.path (text d.member) x.file x.node) (some_is t top f) m
+      member_of _ top f (member_none none) = absurd (cc)
 
-      pub member_there : (name : List ℕ) (o : Option Top) (top : Top) → o ≡ Some top → IsMemberMeant h i.import_.path name o → (x : TreeNode) × (slice_get (read_of h top.file).nodes top.node ≡ Some x)
-      member_there name o top f m = let is = member_of name o top f m in node_there h top.file top.node _ (declares_top is.top.is)
+      pub member_there : (o : Option Top) (top : Top) → o ≡ Some top → IsMemberMeant h i.import_.path (text d.member) o → (x : TreeNode) × (slice_get (read_of h top.file).nodes top.node ≡ Some x)
+      member_there o top f m = let is = member_of o top f m in node_there h top.file top.node _ (declares_top is.top.is)
 
-      pub member_exactly : (name : List ℕ) (o : Option Top) (top : Top) (a : Option ℕ) → name ≡ text d.member → o ≡ Some top → IsMemberMeant h i.import_.path name o → IsExactly (IsNumberOf h decls (Declared top.file top.node)) a → IsExactly (StandsBy h home decls file d.node) a
-      member_exactly name o top a e f m exactly =
-          let own : IsMember h i.import_.path (text d.member) top.file top.node = subst (λ t. IsMember h i.import_.path t top.file top.node) e (member_of name o top f m) in
+      pub member_exactly : (o : Option Top) (top : Top) (a : Option ℕ) → o ≡ Some top → IsMemberMeant h i.import_.path (text d.member) o → IsExactly (IsNumberOf h decls (Declared top.file top.node)) a → IsExactly (StandsBy h home decls file d.node) a
+      member_exactly o top a f m exactly =
+          let own : IsMember h i.import_.path (text d.member) top.file top.node = member_of o top f m in
           record {
             sound = λ x g. record { meant = Declared top.file top.node; holds = stands_member dotted i.of_package own; is = exactly.sound x g };
             complete = λ x s.

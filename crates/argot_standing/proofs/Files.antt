@@ -18,7 +18,7 @@ use Rattle.argot_tops.specs.declared.tops.Tops.{Tops}
 use Rattle.argot_tops.specs.Tops.{IsNamesOf, AreTops}
 use Rattle.argot_decls.proofs.Numbered.{number_below}
 use Rattle.argot_standing.specs.Tables.{IsFilled, FilesBefore, Seen, IsTable}
-use Rattle.argot_standing.proofs.Standing.{stands_there}
+use Rattle.argot_standing.proofs.NodeMeanings.{stands_there}
 use Rattle.argot_standing.proofs.Filled.{filled_onto}
 use Rattle.argot_standing.proofs.Gone.{seen_none, all_seen}
 

@@ -24,7 +24,7 @@ use Rattle.argot_standing.specs.Numbers.{StandsBy, IsExactlyUnless}
 use Rattle.argot_standing.specs.Known.{IsHere}
 use Rattle.argot_standing.specs.Tables.{noted, use_by, IsFilled, IsAmong}
 use Rattle.argot_standing.proofs.Numbering.{some_is}
-use Rattle.argot_standing.proofs.Standing.{stands_there}
+use Rattle.argot_standing.proofs.NodeMeanings.{stands_there}
 
 pub unless_nothing : (Holds : ℕ → Type 0) (o : Option ℕ) → IsExactly Holds o → IsExactlyUnless ⊥ Holds o
 unless_nothing Holds o e = record { sound = e.sound; only = λ x y f i. some_is x y (sym f ∙ e.complete y i); complete = λ x not i. e.complete x i }

@@ -1,10 +1,12 @@
 pub mod Numbering
 pub mod Meanings
 pub mod NodeRoles
-pub mod Standing
+pub mod NodeMeanings
 pub mod Exactly
 pub mod Keys
 pub mod Filled
 pub mod Gone
 pub mod Reading
 pub mod Files
+pub mod Looking
+pub mod Firsts

@@ -8,6 +8,7 @@ use Rattle.argot_naming.specs.Loaded.{AreDecls, count_nodes}
 use Rattle.argot_scopes.specs.declared.file.FileNames.{FileNames}
 use Rattle.argot_reached.specs.Reached.{homes_of}
 use Rattle.argot_tops.specs.Tops.{IsNamesOf, AreTops}
+use Rattle.argot_uses.specs.Packages.{StandsAt}
 use Rattle.argot_decls.specs.Bases.{AreBases}
 use Rattle.argot_decls.specs.Tables.{AreDeclNumbers}
 use Rattle.argot_standing.specs.declared.known.Known.{Known}
@@ -24,3 +25,8 @@ pub record IsHere (h : Handed) (main : List ℕ) (home : Home) (decls : List Dec
   pub names : IsNamesOf h file n
   pub in_home : slice_get (homes_of h k.reached.now) package_ ≡ Some home
   pub reached : IsReachedFile h main home file
+
+-- the same, whatever the numbers of declarations
+pub record IsIn (h : Handed) (main : List ℕ) (home : Home) (k : Known) (n : FileNames) (package_ file : ℕ) : Type 0 where
+  pub at : StandsAt h main k.reached.now home k.tops.now n file
+  pub in_home : slice_get (homes_of h k.reached.now) package_ ≡ Some home

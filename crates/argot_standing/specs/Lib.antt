@@ -1,3 +1,4 @@
 pub mod Numbers
 pub mod Known
 pub mod Tables
+pub mod Firsts

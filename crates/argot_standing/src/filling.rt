@@ -1,20 +1,23 @@
-// The uses of one file go into the table.
+// The uses of one file go into the table, and the first name that stands for nothing is found.
 ghost use Rattle.std.specs.Prelude.{◌≡◌, ◌+◌, ◌<◌, ℕ, List, Some, length, slice_get};
 ghost use Rattle.argot_typed.specs.declared.program.Decl.{Decl};
 ghost use Rattle.argot_naming.specs.declared.home.Home.{Home};
 ghost use Rattle.argot_naming.specs.Handed.{Handed};
 ghost use Rattle.argot_scopes.specs.Names.{AreNames};
-ghost use Rattle.argot_standing.specs.Known.{IsHere};
+ghost use Rattle.argot_uses.specs.Faults.{IsExactly, IsFirstOf, IsFirstNumber, LoneAt, MemberAt, UnresolvedIn};
+ghost use Rattle.argot_standing.specs.Known.{IsIn, IsHere};
 ghost use Rattle.argot_standing.specs.Tables.{IsFilled, FilesBefore, Seen};
 
 use crate::assigned::assigned_number;
 use crate::known::Known;
 use crate::lone::lone_number;
-use crate::members::member_number;
+use crate::members::{member_number, member_of};
 use crate::table::put;
 use argot_bindings::{Brought, Dotted, Looked};
 use argot_decls::node_number;
-use argot_scopes::FileNames;
+use argot_meanings::meaning_of;
+use argot_scopes::{FileNames, spelled_at};
+use argot_uses::{is_blank, lone_fault, member_fault, package_meant, sooner};
 
 // Name k.
 fn looked_at(looked: &[Looked], k: usize) -> Looked
@@ -40,7 +43,7 @@ fn brought_at(brought: &[Brought], k: usize) -> Brought
     brought[k]
 }
 
-// Puts down what lone name k stands for.
+// Puts down what lone name k stands for; its first byte where it stands for nothing.
 fn fill_lone(
     known: &Known,
     names: &FileNames,
@@ -48,17 +51,24 @@ fn fill_lone(
     file: u32,
     k: usize,
     table: &mut Vec<Option<u32>>,
-)
+) -> Option<u32>
     requires names { AreNames names.now }
     requires item { k < length names.now.bindings.looked.items }
-    ensures { (h : Handed) (main : List ℕ) (home : Home) (decls : List Decl) → IsHere h main home decls known.now names.now «package» file → IsFilled h known.now.reached.now decls (Seen names.now file k 0 0) table.old.items → IsFilled h known.now.reached.now decls (Seen names.now file (k + 1) 0 0) table.new.items }
+    ensures table { (h : Handed) (main : List ℕ) (home : Home) (decls : List Decl) → IsHere h main home decls known.now names.now «package» file → IsFilled h known.now.reached.now decls (Seen names.now file k 0 0) table.old.items → IsFilled h known.now.reached.now decls (Seen names.now file (k + 1) 0 0) table.new.items }
+    ensures fault { (h : Handed) (main : List ℕ) (home : Home) → IsIn h main home known.now names.now «package» file → IsExactly (LoneAt h home file names.now.bindings.looked.items k) result }
 {
     let looked = looked_at(&names.bindings.looked, k);
-    let decl = lone_number(known, names, package, file, looked);
+    let name = spelled_at(names.bytes, names.tokens, looked.token);
+    if is_blank(name) {
+        return None;
+    }
+    let meaning = meaning_of(known.tops, names, package, file, looked.token, name);
+    let decl = lone_number(known, names, file, looked, meaning);
     put(table, node_number(known.bases, file, looked.node), decl);
+    lone_fault(names, looked, meaning)
 }
 
-// Puts down what member k stands for.
+// Puts down what member k stands for; the first byte of its name where its package doesn't export it.
 fn fill_member(
     known: &Known,
     names: &FileNames,
@@ -66,14 +76,18 @@ fn fill_member(
     file: u32,
     k: usize,
     table: &mut Vec<Option<u32>>,
-)
+) -> Option<u32>
     requires names { AreNames names.now }
     requires item { k < length names.now.bindings.dotted.items }
-    ensures { (h : Handed) (main : List ℕ) (home : Home) (decls : List Decl) (lone : ℕ) → IsHere h main home decls known.now names.now «package» file → IsFilled h known.now.reached.now decls (Seen names.now file lone k 0) table.old.items → IsFilled h known.now.reached.now decls (Seen names.now file lone (k + 1) 0) table.new.items }
+    ensures table { (h : Handed) (main : List ℕ) (home : Home) (decls : List Decl) (lone : ℕ) → IsHere h main home decls known.now names.now «package» file → IsFilled h known.now.reached.now decls (Seen names.now file lone k 0) table.old.items → IsFilled h known.now.reached.now decls (Seen names.now file lone (k + 1) 0) table.new.items }
+    ensures fault { (h : Handed) (main : List ℕ) (home : Home) → IsIn h main home known.now names.now «package» file → IsExactly (MemberAt h home file names.now.bindings.dotted.items k) result }
 {
     let dotted = dotted_at(&names.bindings.dotted, k);
-    let decl = member_number(known, names, package, file, dotted);
+    let import = package_meant(known.tops, names, file, dotted.token);
+    let member = member_of(known, names, dotted, import);
+    let decl = member_number(known, names, dotted, import, member);
     put(table, node_number(known.bases, file, dotted.node), decl);
+    member_fault(known.reached, names, dotted, import, member)
 }
 
 // Puts down what name k that comes into a block stands for, where it is assigned to.
@@ -94,36 +108,44 @@ fn fill_assigned(
     put(table, node_number(known.bases, file, brought.node), decl);
 }
 
-// All lone names of a file.
+// All lone names of a file; the first byte of the first one that stands for nothing.
 fn fill_lones(
     known: &Known,
     names: &FileNames,
     package: u32,
     file: u32,
     table: &mut Vec<Option<u32>>,
-)
+) -> Option<u32>
     requires names { AreNames names.now }
-    ensures { (h : Handed) (main : List ℕ) (home : Home) (decls : List Decl) → IsHere h main home decls known.now names.now «package» file → IsFilled h known.now.reached.now decls (Seen names.now file 0 0 0) table.old.items → IsFilled h known.now.reached.now decls (Seen names.now file (length names.now.bindings.looked.items) 0 0) table.new.items }
+    ensures table { (h : Handed) (main : List ℕ) (home : Home) (decls : List Decl) → IsHere h main home decls known.now names.now «package» file → IsFilled h known.now.reached.now decls (Seen names.now file 0 0 0) table.old.items → IsFilled h known.now.reached.now decls (Seen names.now file (length names.now.bindings.looked.items) 0 0) table.new.items }
+    ensures fault { (h : Handed) (main : List ℕ) (home : Home) → IsIn h main home known.now names.now «package» file → IsFirstOf (LoneAt h home file names.now.bindings.looked.items) (length names.now.bindings.looked.items) result }
 {
+    let mut first = None;
     for k in 0..names.bindings.looked.len() {
-        fill_lone(known, names, package, file, k, table);
+        let fault = fill_lone(known, names, package, file, k, table);
+        first = sooner(first, fault);
     }
+    first
 }
 
-// All members in a file.
+// All members in a file; the first byte of the first one that its package doesn't export.
 fn fill_members(
     known: &Known,
     names: &FileNames,
     package: u32,
     file: u32,
     table: &mut Vec<Option<u32>>,
-)
+) -> Option<u32>
     requires names { AreNames names.now }
-    ensures { (h : Handed) (main : List ℕ) (home : Home) (decls : List Decl) (lone : ℕ) → IsHere h main home decls known.now names.now «package» file → IsFilled h known.now.reached.now decls (Seen names.now file lone 0 0) table.old.items → IsFilled h known.now.reached.now decls (Seen names.now file lone (length names.now.bindings.dotted.items) 0) table.new.items }
+    ensures table { (h : Handed) (main : List ℕ) (home : Home) (decls : List Decl) (lone : ℕ) → IsHere h main home decls known.now names.now «package» file → IsFilled h known.now.reached.now decls (Seen names.now file lone 0 0) table.old.items → IsFilled h known.now.reached.now decls (Seen names.now file lone (length names.now.bindings.dotted.items) 0) table.new.items }
+    ensures fault { (h : Handed) (main : List ℕ) (home : Home) → IsIn h main home known.now names.now «package» file → IsFirstOf (MemberAt h home file names.now.bindings.dotted.items) (length names.now.bindings.dotted.items) result }
 {
+    let mut first = None;
     for k in 0..names.bindings.dotted.len() {
-        fill_member(known, names, package, file, k, table);
+        let fault = fill_member(known, names, package, file, k, table);
+        first = sooner(first, fault);
     }
+    first
 }
 
 // All names of a file that are assigned to.
@@ -142,18 +164,21 @@ fn fill_all_assigned(
     }
 }
 
-/// Puts down what the nodes of a file stand for. The file is one of the package of that number. No memory.
+/// Puts down what the nodes of a file stand for; the first byte of the first name or member that stands for nothing. The file
+/// is one of the package of that number. No memory.
 pub fn fill_names(
     known: &Known,
     names: &FileNames,
     package: u32,
     file: u32,
     table: &mut Vec<Option<u32>>,
-)
+) -> Option<u32>
     requires names { AreNames names.now }
-    ensures { (h : Handed) (main : List ℕ) (home : Home) (decls : List Decl) → IsHere h main home decls known.now names.now «package» file → IsFilled h known.now.reached.now decls (FilesBefore file) table.old.items → IsFilled h known.now.reached.now decls (FilesBefore (file + 1)) table.new.items }
+    ensures table { (h : Handed) (main : List ℕ) (home : Home) (decls : List Decl) → IsHere h main home decls known.now names.now «package» file → IsFilled h known.now.reached.now decls (FilesBefore file) table.old.items → IsFilled h known.now.reached.now decls (FilesBefore (file + 1)) table.new.items }
+    ensures fault { (h : Handed) (main : List ℕ) (home : Home) → IsIn h main home known.now names.now «package» file → IsFirstNumber (UnresolvedIn h main file) result }
 {
-    fill_lones(known, names, package, file, table);
-    fill_members(known, names, package, file, table);
+    let lone = fill_lones(known, names, package, file, table);
+    let member = fill_members(known, names, package, file, table);
     fill_all_assigned(known, names, package, file, table);
+    sooner(lone, member)
 }

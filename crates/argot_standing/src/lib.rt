@@ -1,19 +1,21 @@
-//! What each name of the packages' files stands for, by numbers.
+//! What each name of the packages' files stands for, by numbers, and the first name that stands for nothing.
 //!
-//! `uses_of` meets the list of uses of `IsLoaded` of argot_naming: for each node that stands for a declaration the numbers of
-//! both, by the numbers of the nodes. A node has one meaning: lone names and names of types have that of scopes, a name behind
-//! a dot is a member of a package, and a name on the left of a `:=` that its block has already is the first of these. Each
-//! file's lists are gone through once, and what is found goes into a table by the numbers of the nodes; all is linear but for
-//! hashing.
+//! `standing_of` meets the list of uses of `IsLoaded` of argot_naming: for each node that stands for a declaration the numbers of
+//! both, by the numbers of the nodes; and the first place of `IsUnresolved`. A node has one meaning: lone names and names of
+//! types have that of scopes, a name behind a dot is a member of a package, and a name on the left of a `:=` that its block has
+//! already is the first of these. Each file's lists are gone through once, and each name is looked up once: what is found goes
+//! into a table by the numbers of the nodes, and where nothing is found, the name's place is kept, if it is the first. All is
+//! linear but for hashing.
 #![tactic(auto)]
 
+mod all_files;
 mod assigned;
 mod filling;
 mod known;
 mod lone;
 mod members;
 mod numbers;
+mod standing;
 mod table;
-mod uses;
 
-pub use uses::uses_of;
+pub use standing::{Standing, standing_of};

@@ -1,37 +1,60 @@
-// What a name behind a dot stands for.
-ghost use Rattle.std.specs.Prelude.{◌≡◌, ℕ, List};
+// What a name behind a dot stands for, by the package before the dot.
+ghost use Rattle.std.specs.Prelude.{◌≡◌, ℕ, List, Some};
 ghost use Rattle.argot_typed.specs.declared.program.Decl.{Decl};
 ghost use Rattle.argot_naming.specs.declared.home.Home.{Home};
-ghost use Rattle.argot_naming.specs.Handed.{Handed};
+ghost use Rattle.argot_naming.specs.Handed.{Handed, read_of, text_at};
+ghost use Rattle.argot_packages.specs.declared.written.Written.{Written};
 ghost use Rattle.argot_bindings.specs.Listing.{IsMemberName};
-ghost use Rattle.argot_scopes.specs.Names.{AreNames};
+ghost use Rattle.argot_tops.specs.Tops.{IsNamesOf, AreTops};
+ghost use Rattle.argot_uses.specs.Packages.{StandsAt, IsPackageMeant};
+ghost use Rattle.argot_uses.specs.Members.{IsImportOf, IsMemberMeant};
 ghost use Rattle.argot_uses.specs.Faults.{IsExactly};
 ghost use Rattle.argot_standing.specs.Numbers.{StandsBy};
-ghost use Rattle.argot_standing.specs.Known.{IsHere};
+ghost use Rattle.argot_standing.specs.Known.{AreKnown};
 
 use crate::known::{Known, number_at};
 use argot_bindings::Dotted;
 use argot_scopes::{FileNames, spelled_of};
-use argot_uses::{member_meant, package_meant};
+use argot_tops::Top;
+use argot_uses::member_meant;
 
-/// The number of the declaration that the name behind the dot stands for, where it is a member of a package. The file is one
-/// of the package of that number. No memory.
+/// The declaration that the package before the dot exports under the name behind it; none where no package is meant there.
+/// The file is one of a package that is reached. No memory.
+pub fn member_of(
+    known: &Known,
+    names: &FileNames,
+    dotted: Dotted,
+    import: Option<usize>,
+) -> Option<Top>
+    ensures { (h : Handed) (main : List ℕ) (file number : ℕ) (import_ : Written) → AreTops h main known.now.reached.now known.now.tops.now → IsNamesOf h file names.now → import ≡ Some number → IsImportOf h main known.now.reached.now number import_ → IsMemberMeant h import_.path (text_at (read_of h file) dotted.member) result }
+{
+    match import {
+        Some(number) => member_meant(
+            known.reached,
+            known.tops,
+            number,
+            spelled_of(names.bytes, names.tokens, dotted.member),
+        ),
+        None => None,
+    }
+}
+
+/// The number of the declaration that the name behind the dot stands for, where it is this member of a package. The file is
+/// one of a package that is reached. No memory.
 pub fn member_number(
     known: &Known,
     names: &FileNames,
-    package: u32,
-    file: u32,
     dotted: Dotted,
+    import: Option<usize>,
+    member: Option<Top>,
 ) -> Option<u32>
-    requires names { AreNames names.now }
-    requires dotted { IsMemberName names.now.tree.now.nodes dotted }
-    ensures { (h : Handed) (main : List ℕ) (home : Home) (decls : List Decl) → IsHere h main home decls known.now names.now «package» file → IsExactly (StandsBy h home decls file dotted.node) result }
+    requires { IsMemberName names.now.tree.now.nodes dotted }
+    ensures { (h : Handed) (main : List ℕ) (home : Home) (decls : List Decl) (file : ℕ) → AreKnown h main decls known.now → StandsAt h main known.now.reached.now home known.now.tops.now names.now file → IsPackageMeant h known.now.reached.now home file dotted.token import → ((number : ℕ) (w : Written) → import ≡ Some number → IsImportOf h main known.now.reached.now number w → IsMemberMeant h w.path (text_at (read_of h file) dotted.member) member) → IsExactly (StandsBy h home decls file dotted.node) result }
 {
-    let Some(import) = package_meant(known.tops, names, file, dotted.token) else {
+    let Some(_) = import else {
         return None;
     };
-    let name = spelled_of(names.bytes, names.tokens, dotted.member);
-    match member_meant(known.reached, known.tops, import, name) {
+    match member {
         Some(top) => number_at(known, top.file, top.node),
         None => None,
     }

@@ -61,26 +61,26 @@ module _ (h : Handed) (home : Home) (file : ℕ) (n : FileNames) (is : IsNamesOf
     pub lone_passed : IsPassedOver n.tree.now.nodes l.token → IsExactly (IsLoneFault h home file l) None
     lone_passed over = none_exactly (IsLoneFault h home file l) (λ x p. p.heeded (subst (λ t. IsPassedOver t l.token) is.nodes over))
 
-    pub lone_some : (r : Reached) (name : List ℕ) (m : Meaning) → name ≡ text_at f l.token → IsMeaning h r home file l.token name m → (IsNothing m → ⊥) → IsExactly (IsLoneFault h home file l) None
-    lone_some r name m e means not = none_exactly (IsLoneFault h home file l) (λ x p. by m means not (subst (MeansNothing h home file l.token) (sym e) p.nothing))
+    pub lone_some : (r : Reached) (m : Meaning) → IsMeaning h r home file l.token (text_at f l.token) m → (IsNothing m → ⊥) → IsExactly (IsLoneFault h home file l) None
+    lone_some r m means not = none_exactly (IsLoneFault h home file l) (λ x p. by m means not p.nothing)
       where
-        by : (m : Meaning) → IsMeaning h r home file l.token name m → (IsNothing m → ⊥) → MeansNothing h home file l.token name → ⊥
-        by (meanings.Local node) means not none = means_some h home file l.token name (Declared file node) means none
-        by (meanings.Import number) means not none = means_some h home file l.token name (Declared file means.import_.node) means.means none
-        by (meanings.Top top) means not none = means_some h home file l.token name (Declared top.file top.node) means none
-        by (meanings.Predeclared number) means not none = means_some h home file l.token name (Predeclared name) means.means none
+        by : (m : Meaning) → IsMeaning h r home file l.token (text_at f l.token) m → (IsNothing m → ⊥) → MeansNothing h home file l.token (text_at f l.token) → ⊥
+        by (meanings.Local node) means not none = means_some h home file l.token (text_at f l.token) (Declared file node) means none
+        by (meanings.Import number) means not none = means_some h home file l.token (text_at f l.token) (Declared file means.import_.node) means.means none
+        by (meanings.Top top) means not none = means_some h home file l.token (text_at f l.token) (Declared top.file top.node) means none
+        by (meanings.Predeclared number) means not none = means_some h home file l.token (text_at f l.token) (Predeclared (text_at f l.token)) means.means none
         by meanings.Nothing means not none = not refl
 
-    pub lone_none : (r : Reached) (name : List ℕ) (m : Meaning) (o : Option ℕ) → IsSeen n.tree.now.nodes l → l.key ≡ false → name ≡ text_at f l.token → (name ≡ codes "_" → ⊥) → (IsPassedOver n.tree.now.nodes l.token → ⊥) → IsMeaning h r home file l.token name m → IsNothing m → o ≡ start_of (slice_get n.tokens.now l.token)
+    pub lone_none : (r : Reached) (m : Meaning) (o : Option ℕ) → IsSeen n.tree.now.nodes l → l.key ≡ false → (text_at f l.token ≡ codes "_" → ⊥) → (IsPassedOver n.tree.now.nodes l.token → ⊥) → IsMeaning h r home file l.token (text_at f l.token) m → IsNothing m → o ≡ start_of (slice_get n.tokens.now l.token)
         → IsExactly (IsLoneFault h home file l) o
-    lone_none r name m o seen key e blank over means none begins =
+    lone_none r m o seen key blank over means none begins =
         let start : o ≡ start_of (slice_get f.tokens l.token) = begins ∙ ap (λ ts. start_of (slice_get ts l.token)) is.tokens in
         record {
           sound = λ x g.
               record {
                 no_key = λ k. seen.no_key key (subst (λ t. IsKey t l.node) (sym is.nodes) k);
-                named = λ b. blank (e ∙ b);
-                nothing = subst (MeansNothing h home file l.token) e (subst (IsMeaning h r home file l.token name) none means);
+                named = blank;
+                nothing = subst (IsMeaning h r home file l.token (text_at f l.token)) none means;
                 heeded = λ p. over (subst (λ t. IsPassedOver t l.token) (sym is.nodes) p);
                 begins = sym start ∙ g;
               };
@@ -97,13 +97,13 @@ module _ (h : Handed) (home : Home) (file : ℕ) (n : FileNames) (is : IsNamesOf
     pub left_out_package : (r : Reached) (number : ℕ) (m : IsImportMeant h r home file d.token number) → IsLeftOut m.import_.path → IsExactly (IsMemberFault h home file d) None
     left_out_package r number m out = none_exactly (IsMemberFault h home file d) (λ x p. p.known (subst IsLeftOut (sym (m.only p.path p.of_package)) out))
 
-    pub has_member : (r : Reached) (number : ℕ) (name : List ℕ) (m : IsImportMeant h r home file d.token number) (top : Top) → name ≡ text_at f d.member → IsMemberMeant h m.import_.path name (Some top) → IsExactly (IsMemberFault h home file d) None
-    has_member r number name m top e (member_some member first) =
-        none_exactly (IsMemberFault h home file d) (λ x p. p.none top.file top.node (subst (λ q. IsMember h q (text_at f d.member) top.file top.node) (sym (m.only p.path p.of_package)) (subst (λ t. IsMember h m.import_.path t top.file top.node) e member)))
+    pub has_member : (r : Reached) (number : ℕ) (m : IsImportMeant h r home file d.token number) (top : Top) → IsMemberMeant h m.import_.path (text_at f d.member) (Some top) → IsExactly (IsMemberFault h home file d) None
+    has_member r number m top (member_some member first) =
+        none_exactly (IsMemberFault h home file d) (λ x p. p.none top.file top.node (subst (λ q. IsMember h q (text_at f d.member) top.file top.node) (sym (m.only p.path p.of_package)) member))
 
-    pub no_member : (r : Reached) (number : ℕ) (name : List ℕ) (m : IsImportMeant h r home file d.token number) (o : Option ℕ) → name ≡ text_at f d.member → (IsPassedOver n.tree.now.nodes d.token → ⊥) → (IsLeftOut m.import_.path → ⊥) → IsMemberMeant h m.import_.path name None → o ≡ start_of (slice_get n.tokens.now d.member)
+    pub no_member : (r : Reached) (number : ℕ) (m : IsImportMeant h r home file d.token number) (o : Option ℕ) → (IsPassedOver n.tree.now.nodes d.token → ⊥) → (IsLeftOut m.import_.path → ⊥) → IsMemberMeant h m.import_.path (text_at f d.member) None → o ≡ start_of (slice_get n.tokens.now d.member)
         → IsExactly (IsMemberFault h home file d) o
-    no_member r number name m o e over known (member_none none) begins =
+    no_member r number m o over known (member_none none) begins =
         let start : o ≡ start_of (slice_get f.tokens d.member) = begins ∙ ap (λ ts. start_of (slice_get ts d.member)) is.tokens in
         record {
           sound = λ x g.
@@ -111,7 +111,7 @@ module _ (h : Handed) (home : Home) (file : ℕ) (n : FileNames) (is : IsNamesOf
                 path = m.import_.path;
                 of_package = m.of_package;
                 known = known;
-                none = λ other declared p. none other declared (subst (λ t. IsMember h m.import_.path t other declared) (sym e) p);
+                none = none;
                 heeded = λ p. over (subst (λ t. IsPassedOver t d.token) (sym is.nodes) p);
                 begins = sym start ∙ g;
               };
@@ -178,19 +178,22 @@ module _ (h : Handed) (main : List ℕ) (r : Reached) (home : Home) (tops : Tops
   import_of : (number : ℕ) (m : IsImportMeant h r home file d.token number) → IsImportOf h main r number m.import_
   import_of number m = record { home = home; there = m.there; reached = subst (IsReachedFile h main home) (sym m.file_is) at.reached }
 
-  pub by_member : (number : ℕ) (o : Option ℕ) (name : List ℕ) (top : Top) (answer : Option Top) → o ≡ Some number → IsPackageMeant h r home file d.token o → name ≡ text_in n.bytes.now n.tokens.now d.member → answer ≡ Some top
-      → ((w : Written) → IsImportOf h main r number w → IsMemberMeant h w.path name answer) → Fault None
-  by_member number o name top answer e p text is member =
-      let m = the_import number o e p in
-      has_member h home file n at.names_are d r number name m top (text_is h home file n at.names_are d.member name text) (subst (IsMemberMeant h m.import_.path name) is (member m.import_ (import_of number m)))
+  -- what is answered of the name behind the dot
+  abbrev Answered : Option ℕ → Option Top → Type 0
+  Answered o answer = (number : ℕ) (w : Written) → o ≡ Some number → IsImportOf h main r number w → IsMemberMeant h w.path (text_at (read_of h file) d.member) answer
 
-  pub by_no_member : (number : ℕ) (o : Option ℕ) (name : List ℕ) (answer : Option Top) (result : Option ℕ) → o ≡ Some number → IsPackageMeant h r home file d.token o → name ≡ text_in n.bytes.now n.tokens.now d.member → answer ≡ None
-      → ((w : Written) → IsImportOf h main r number w → IsMemberMeant h w.path name answer) → (IsPassedOver n.tree.now.nodes d.token → ⊥) → (slice_get r.survey.founds.items number ≡ Some finds.LeftOut → ⊥) → result ≡ start_of (slice_get n.tokens.now d.member) → Fault result
-  by_no_member number o name answer result e p text is member over out begins =
+  pub by_member : (number : ℕ) (o : Option ℕ) (top : Top) (answer : Option Top) → o ≡ Some number → IsPackageMeant h r home file d.token o → answer ≡ Some top → Answered o answer → Fault None
+  by_member number o top answer e p is member =
+      let m = the_import number o e p in
+      has_member h home file n at.names_are d r number m top (subst (IsMemberMeant h m.import_.path (text_at (read_of h file) d.member)) is (member number m.import_ e (import_of number m)))
+
+  pub by_no_member : (number : ℕ) (o : Option ℕ) (answer : Option Top) (result : Option ℕ) → o ≡ Some number → IsPackageMeant h r home file d.token o → answer ≡ None → Answered o answer
+      → (IsPassedOver n.tree.now.nodes d.token → ⊥) → (slice_get r.survey.founds.items number ≡ Some finds.LeftOut → ⊥) → result ≡ start_of (slice_get n.tokens.now d.member) → Fault result
+  by_no_member number o answer result e p is member over out begins =
       let m = the_import number o e p in
       let f = found_of number m in
-      no_member h home file n at.names_are d r number name m result (text_is h home file n at.names_are d.member name text) over
-      (λ left. out (f.1 ∙ ap (λ x. Some x) (left_out_found h m.import_.path f.0 f.2 left))) (subst (IsMemberMeant h m.import_.path name) is (member m.import_ (import_of number m))) begins
+      no_member h home file n at.names_are d r number m result over (λ left. out (f.1 ∙ ap (λ x. Some x) (left_out_found h m.import_.path f.0 f.2 left)))
+      (subst (IsMemberMeant h m.import_.path (text_at (read_of h file) d.member)) is (member number m.import_ e (import_of number m))) begins
 
 pub dotted_within : (n : FileNames) → AreNames n → (token member node : ℕ) → IsDotted n.tree.now.nodes token member node → token < length n.bindings.generics.items
 dotted_within n names token member node (selector {operand = operand} {last = last} s f u c m) = names.brings.as_long operand (record { kind = nodes.NameUse; token = token; last = last; first = u.first; next = u.next }) u.there

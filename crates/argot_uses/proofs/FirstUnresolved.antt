@@ -237,9 +237,6 @@ first_place h main file offset o before first e =
         let least = first.first offset other.offset e (subst (IsUnresolved h main) (same_place file other same) u) in
         absurd (omega (arith, low, least))
 
-pub at_end : {A : Type 0} (k : ℕ) (xs ys : List A) → xs ≡ ys → length xs ≤ k → k ≤ length xs → k ≡ length ys
-at_end k xs ys e low high = omega (arith, low, high, ap length e)
-
 -- all files have been looked at
 pub nowhere : (h : Handed) (main : List ℕ) (r : Reached) (t : Tops) → AreTops h main r t → (count : ℕ) → length t.files.items ≤ count → NoneBefore h main count → IsNowhere h main Unknown
 nowhere h main r t tops count long none place u =

@@ -1,25 +1,25 @@
 // Whether a name, or a member of a package, stands for nothing.
 ghost use Rattle.std.specs.Prelude.{◌≡◌, ◌↔◌, ◌<◌, ℕ, List, IsTrue, Some, true, false, codes, length, slice_get};
 ghost use Rattle.argot_naming.specs.declared.home.Home.{Home};
-ghost use Rattle.argot_naming.specs.Handed.{Handed};
+ghost use Rattle.argot_naming.specs.Handed.{Handed, read_of, text_at};
 ghost use Rattle.argot_packages.specs.declared.find.Found.TheVariants as finds;
+ghost use Rattle.argot_packages.specs.declared.written.Written.{Written};
 ghost use Rattle.argot_bindings.specs.Listing.{IsSeen};
 ghost use Rattle.argot_reached.specs.declared.reached.Reached.{Reached};
-ghost use Rattle.argot_reached.specs.Reached.{homes_of};
 ghost use Rattle.argot_scopes.specs.Names.{AreNames};
 ghost use Rattle.argot_scopes.specs.Again.{start_of};
-ghost use Rattle.argot_scopes.specs.Texts.{text_in};
-ghost use Rattle.argot_uses.specs.Packages.{StandsAt};
+ghost use Rattle.argot_tops.specs.declared.tops.Tops.{Tops};
+ghost use Rattle.argot_meanings.specs.Meanings.{IsMeaning};
+ghost use Rattle.argot_uses.specs.Packages.{StandsAt, IsPackageMeant};
+ghost use Rattle.argot_uses.specs.Members.{IsImportOf, IsMemberMeant};
 ghost use Rattle.argot_uses.specs.Faults.{IsNothing, IsExactly, IsLoneFault, IsMemberFault};
 
-use crate::imports::package_meant;
-use crate::members::member_meant;
 use argot_bindings::{Dotted, Looked};
-use argot_meanings::{Meaning, meaning_of};
+use argot_meanings::Meaning;
 use argot_packages::Found;
 use argot_reached::Reached;
-use argot_scopes::{FileNames, is_passed_over, spelled_of};
-use argot_tops::Tops;
+use argot_scopes::{FileNames, is_passed_over, spelled_at};
+use argot_tops::Top;
 use argot_tree::Token;
 
 /// The first byte of a token, where there is one.
@@ -59,20 +59,17 @@ fn is_left_out(founds: &[Found], import: usize) -> bool
     }
 }
 
-/// The first byte of the name, where that is looked up and stands for nothing. The file is one of the package of that
-/// number. No memory.
-pub fn lone_fault(
-    tops: &Tops,
-    names: &FileNames,
-    package: u32,
-    file: u32,
-    looked: Looked,
-) -> Option<u32>
+/// The first byte of the name, where that is looked up and stands for nothing. The meaning is what the name means, as
+/// `meaning_of` answers it; the file is one of a package that is reached. No memory.
+pub fn lone_fault(names: &FileNames, looked: Looked, meaning: Meaning) -> Option<u32>
     requires names { AreNames names.now }
     requires seen { IsSeen names.now.tree.now.nodes looked }
-    ensures { (h : Handed) (main : List ℕ) (r : Reached) (home : Home) → StandsAt h main r home tops.now names.now file → slice_get (homes_of h r) «package» ≡ Some home → IsExactly (IsLoneFault h home file looked) result }
+    ensures { (h : Handed) (main : List ℕ) (r : Reached) (home : Home) (tops : Tops) (file : ℕ) → StandsAt h main r home tops names.now file → IsMeaning h r home file looked.token (text_at (read_of h file) looked.token) meaning → IsExactly (IsLoneFault h home file looked) result }
 {
-    let name = spelled_of(names.bytes, names.tokens, looked.token as usize);
+    if !is_nothing(meaning) {
+        return None;
+    }
+    let name = spelled_at(names.bytes, names.tokens, looked.token);
     if looked.key {
         return None;
     }
@@ -82,36 +79,33 @@ pub fn lone_fault(
     if is_passed_over(names, looked.token) {
         return None;
     }
-    if is_nothing(meaning_of(tops, names, package, file, looked.token, name)) {
-        return start_at(names.tokens, looked.token as usize);
-    }
-    None
+    start_at(names.tokens, looked.token as usize)
 }
 
-/// The first byte of the member, where the name before the dot means a package that is known and doesn't export it. The file
-/// is one of a package that is reached. No memory.
+/// The first byte of the member, where the name before the dot means a package that is known and doesn't export it. The import
+/// is what that name means, as `package_meant` answers it; the member is what `member_meant` answers of the name behind the
+/// dot, where there is an import. The file is one of a package that is reached. No memory.
 pub fn member_fault(
     reached: &Reached,
-    tops: &Tops,
     names: &FileNames,
-    file: u32,
     dotted: Dotted,
+    import: Option<usize>,
+    member: Option<Top>,
 ) -> Option<u32>
     requires names { AreNames names.now }
     requires token { dotted.token < length names.now.bindings.generics.items }
-    ensures { (h : Handed) (main : List ℕ) (home : Home) → StandsAt h main reached.now home tops.now names.now file → IsExactly (IsMemberFault h home file dotted) result }
+    ensures { (h : Handed) (main : List ℕ) (home : Home) (tops : Tops) (file : ℕ) → StandsAt h main reached.now home tops names.now file → IsPackageMeant h reached.now home file dotted.token import → ((number : ℕ) (w : Written) → import ≡ Some number → IsImportOf h main reached.now number w → IsMemberMeant h w.path (text_at (read_of h file) dotted.member) member) → IsExactly (IsMemberFault h home file dotted) result }
 {
     if is_passed_over(names, dotted.token) {
         return None;
     }
-    let Some(import) = package_meant(tops, names, file, dotted.token) else {
+    let Some(number) = import else {
         return None;
     };
-    if is_left_out(&reached.survey.founds, import) {
+    if is_left_out(&reached.survey.founds, number) {
         return None;
     }
-    let name = spelled_of(names.bytes, names.tokens, dotted.member);
-    match member_meant(reached, tops, import, name) {
+    match member {
         Some(_) => None,
         None => start_at(names.tokens, dotted.member),
     }

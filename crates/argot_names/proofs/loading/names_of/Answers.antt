@@ -1,14 +1,17 @@
-use Rattle.std.proofs.Common.{refl}
 use Rattle.argot_naming.specs.Faults.{memory}
-use Rattle.argot_packages.specs.Reads.{handed}
 use Rattle.argot_names.proofs.loading.names_of.Goals as goal
 
-pub listed-requires : goal.listed-requires
-listed-requires c = let r = c.requires.reach in (handed c.args.sources.now c.args.lexed.now c.args.trees.now, r.0, c.in-Ok.ensures.ok r.0 r.1)
+pub names_in-requires-clause-tops : goal.names_in-requires-clause-tops
+names_in-requires-clause-tops c = let r = c.requires.reach in (c.args.lexed.now, r.0, c.in-Ok.ensures r.0 r.1)
 
-pub returns-in-Ok-listed-clause-ok : goal.returns-in-Ok-listed-clause-ok
-returns-in-Ok-listed-clause-ok c main reach =
-    c.in-Ok-listed.ensures (handed c.args.sources.now c.args.lexed.now c.args.trees.now) main refl (c.in-Ok.ensures.ok main reach)
+pub returns-in-Ok-clause-ok : goal.returns-in-Ok-clause-ok
+returns-in-Ok-clause-ok c main reach = c.names_in.ensures.ok c.args.lexed.now main (c.in-Ok.ensures main reach)
 
-pub returns-clause-fault : goal.returns-clause-fault
-returns-clause-fault c main reach = memory
+pub returns-in-Ok-clause-fine : goal.returns-in-Ok-clause-fine
+returns-in-Ok-clause-fine c main reach = c.names_in.ensures.fine c.args.lexed.now main (c.in-Ok.ensures main reach)
+
+pub returns-in-Ok-clause-fault : goal.returns-in-Ok-clause-fault
+returns-in-Ok-clause-fault c main reach = c.names_in.ensures.fault c.args.lexed.now main (c.in-Ok.ensures main reach)
+
+pub returns-in-Err-clause-fault : goal.returns-in-Err-clause-fault
+returns-in-Err-clause-fault c main reach = memory

@@ -1,29 +1,38 @@
-use Rattle.std.proofs.Common.{◌≡◌, Some, length, ap, subst, ◌∙◌, arith}
+use Rattle.std.proofs.Common.{◌≡◌, Some, length, ap, sym, subst, arith}
 use Rattle.std.specs.Prelude.{slice_get}
-use Rattle.argot_bindings.specs.Bringing.{entry_of}
-use Rattle.argot_scopes.proofs.Walking.{first_reaches, next_reaches, lowers, in_table, found_here, found_nowhere}
+use Rattle.argot_bindings.specs.Blocks.{AreBlocks, IsInnermostIn}
+use Rattle.argot_scopes.proofs.Walking.{first_reaches, next_reaches, lowers, in_list, found_here, found_nowhere}
 use Rattle.argot_scopes.proofs.meant.local_meant.Goals as goal
 
-pub loop-block-init : goal.loop-block-init
-loop-block-init c = first_reaches c.args.names.now c.requires c.args.token c.args.name.now c.block_at-block.result (c.block_at-block.ensures ∙ ap (λ x. entry_of (slice_get x c.args.token)) c.deref.ensures.value)
+pub innermost-at-requires : goal.innermost-at-requires
+innermost-at-requires c = (c.args.names.now.tree.now.nodes, subst (AreBlocks c.args.names.now.tree.now.nodes) (sym c.as_slice-blocks.ensures.value) c.requires.brings.blocks)
+
+pub loop-at-init : goal.loop-at-init
+loop-at-init c =
+    let here = subst (AreBlocks c.args.names.now.tree.now.nodes) (sym c.as_slice-blocks.ensures.value) c.requires.brings.blocks in
+    first_reaches c.args.names.now c.requires c.args.token c.args.name.now c.innermost-at.result
+    (subst (λ xs. IsInnermostIn c.args.names.now.tree.now.nodes xs c.args.token c.innermost-at.result) c.as_slice-blocks.ensures.value (c.innermost-at.ensures c.args.names.now.tree.now.nodes here))
+
+pub block_at-block-requires : goal.block_at-block-requires
+block_at-block-requires c =
+    omega (arith, in_list c.args.names.now c.requires c.args.token c.args.name.now c.loop-at.at c.in-Some.k c.loop-at.invariant c.in-Some.is, ap length c.as_slice-blocks.ensures.value)
 
 pub returns-in-Some-block_meant : goal.returns-in-Some-block_meant
 returns-in-Some-block_meant c =
-    found_here c.args.names.now c.requires c.args.token c.args.name.now c.in-Some.span c.loop-block.block c.in-Some-block_meant.b c.loop-block.invariant c.in-Some.is c.in-Some-block_meant.ensures
+    found_here c.args.names.now c.requires c.args.token c.args.name.now c.loop-at.at c.in-Some.k c.block_at-block.result c.in-Some-block_meant.b c.loop-at.invariant c.in-Some.is
+    (subst (λ xs. slice_get xs c.in-Some.k ≡ Some c.block_at-block.result) c.as_slice-blocks.ensures.value c.block_at-block.ensures)
+    c.in-Some-block_meant.ensures
 
-pub span_at-block-requires : goal.span_at-block-requires
-span_at-block-requires c = omega (arith, in_table c.args.names.now c.requires c.args.token c.args.name.now c.in-Some.span c.loop-block.block c.loop-block.invariant c.in-Some.is, ap length c.deref-in-Some.ensures.value)
+pub loop-at-smaller : goal.loop-at-smaller
+loop-at-smaller c =
+    lowers c.args.names.now c.requires c.args.token c.args.name.now c.loop-at.at c.in-Some.k c.block_at-block.result c.in-Some.is
+    (subst (λ xs. slice_get xs c.in-Some.k ≡ Some c.block_at-block.result) c.as_slice-blocks.ensures.value c.block_at-block.ensures)
 
-pub loop-block-smaller : goal.loop-block-smaller
-loop-block-smaller c =
-    lowers c.args.names.now c.requires c.args.token c.args.name.now c.in-Some.span c.loop-block.block c.span_at-block.result c.loop-block.invariant c.in-Some.is
-    (subst (λ x. slice_get x c.in-Some.span.opens ≡ Some c.span_at-block.result) c.deref-in-Some.ensures.value c.span_at-block.ensures)
-
-pub loop-block-preserved : goal.loop-block-preserved
-loop-block-preserved c =
-    next_reaches c.args.names.now c.requires c.args.token c.args.name.now c.in-Some.span c.loop-block.block c.span_at-block.result c.loop-block.invariant c.in-Some.is
-    (subst (λ x. slice_get x c.in-Some.span.opens ≡ Some c.span_at-block.result) c.deref-in-Some.ensures.value c.span_at-block.ensures)
+pub loop-at-preserved : goal.loop-at-preserved
+loop-at-preserved c =
+    next_reaches c.args.names.now c.requires c.args.token c.args.name.now c.loop-at.at c.in-Some.k c.block_at-block.result c.loop-at.invariant c.in-Some.is
+    (subst (λ xs. slice_get xs c.in-Some.k ≡ Some c.block_at-block.result) c.as_slice-blocks.ensures.value c.block_at-block.ensures)
     c.in_default-block_meant.ensures
 
 pub returns : goal.returns
-returns c = found_nowhere c.args.names.now c.requires c.args.token c.args.name.now c.loop-block.block c.loop-block.invariant c.in_default.is
+returns c = found_nowhere c.args.names.now c.requires c.args.token c.args.name.now c.loop-at.at c.loop-at.invariant c.in_default.is

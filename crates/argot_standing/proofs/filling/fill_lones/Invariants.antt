@@ -2,9 +2,12 @@ use Rattle.std.proofs.Common.{ℕ, List}
 use Rattle.argot_typed.specs.declared.program.Decl.{Decl}
 use Rattle.argot_naming.specs.declared.home.Home.{Home}
 use Rattle.argot_naming.specs.Handed.{Handed}
-use Rattle.argot_standing.specs.Known.{IsHere}
+use Rattle.argot_uses.specs.Faults.{IsFirstOf, LoneAt}
+use Rattle.argot_standing.specs.Known.{IsIn, IsHere}
 use Rattle.argot_standing.specs.Tables.{IsFilled, Seen}
 use Rattle.argot_standing.proofs.filling.fill_lones.Given as goal
 
 abbrev pub invariant-loop-k : goal.invariant-loop-k
-invariant-loop-k l = (h : Handed) (main : List ℕ) (home : Home) (decls : List Decl) → IsHere h main home decls l.known l.names l.«package» l.file → IsFilled h l.known.reached.now decls (Seen l.names l.file 0 0 0) l.fn.table.items → IsFilled h l.known.reached.now decls (Seen l.names l.file l.k 0 0) l.table.items
+invariant-loop-k l =
+    ((h : Handed) (main : List ℕ) (home : Home) (decls : List Decl) → IsHere h main home decls l.known l.names l.«package» l.file → IsFilled h l.known.reached.now decls (Seen l.names l.file 0 0 0) l.fn.table.items → IsFilled h l.known.reached.now decls (Seen l.names l.file l.k 0 0) l.table.items)
+    × ((h : Handed) (main : List ℕ) (home : Home) → IsIn h main home l.known l.names l.«package» l.file → IsFirstOf (LoneAt h home l.file l.names.bindings.looked.items) l.k l.first)

@@ -6,24 +6,21 @@ use Rattle.argot_uses.proofs.Faulty.{member_passed, by_none, by_left_out, by_mem
 use Rattle.argot_uses.proofs.faults.member_fault.Goals as goal
 
 pub returns-then-is_passed_over : goal.returns-then-is_passed_over
-returns-then-is_passed_over c h main home at = member_passed h home c.args.file c.args.names.now at.names_are c.args.dotted (c.is_passed_over.ensures.there c.if-is_passed_over.true)
+returns-then-is_passed_over c h main home tops file at meant member = member_passed h home file c.args.names.now at.names_are c.args.dotted (c.is_passed_over.ensures.there c.if-is_passed_over.true)
 
 pub returns-in_default : goal.returns-in_default
-returns-in_default c h main home at =
-    by_none h main c.args.reached.now home c.args.tops.now c.args.file c.args.names.now at c.args.dotted (subst (IsPackageMeant h c.args.reached.now home c.args.file c.args.dotted.token) c.in_default.is (c.package_meant.ensures h main c.args.reached.now home at))
+returns-in_default c h main home tops file at meant member =
+    by_none h main c.args.reached.now home tops file c.args.names.now at c.args.dotted (subst (IsPackageMeant h c.args.reached.now home file c.args.dotted.token) c.in_default.is meant)
 
 pub returns-then-is_left_out : goal.returns-then-is_left_out
-returns-then-is_left_out c h main home at =
-    by_left_out h main c.args.reached.now home c.args.tops.now c.args.file c.args.names.now at c.args.dotted c.in-Some.import c.package_meant.result c.in-Some.is (c.package_meant.ensures h main c.args.reached.now home at)
-    (subst (λ fs. slice_get fs c.in-Some.import ≡ Some finds.LeftOut) c.deref.ensures.value (c.if-is_left_out.ensures.0 refl))
+returns-then-is_left_out c h main home tops file at meant member =
+    by_left_out h main c.args.reached.now home tops file c.args.names.now at c.args.dotted c.in-Some.number c.args.import c.in-Some.is meant (subst (λ fs. slice_get fs c.in-Some.number ≡ Some finds.LeftOut) c.deref.ensures.value (c.if-is_left_out.ensures.0 refl))
 
-pub returns-in-Some-member_meant : goal.returns-in-Some-member_meant
-returns-in-Some-member_meant c h main home at =
-    by_member h main c.args.reached.now home c.args.tops.now c.args.file c.args.names.now at c.args.dotted c.in-Some.import c.package_meant.result c.spelled_of-name.result.now c.in-Some-member_meant.field-0 c.member_meant.result c.in-Some.is (c.package_meant.ensures h main c.args.reached.now home at) c.spelled_of-name.ensures c.in-Some-member_meant.is
-    (λ w is. c.member_meant.ensures h main w at.tops_are is)
+pub returns-in-Some-member : goal.returns-in-Some-member
+returns-in-Some-member c h main home tops file at meant member =
+    by_member h main c.args.reached.now home tops file c.args.names.now at c.args.dotted c.in-Some.number c.args.import c.in-Some-member.field-0 c.args.member c.in-Some.is meant c.in-Some-member.is member
 
 pub returns-in-None : goal.returns-in-None
-returns-in-None c h main home at =
-    by_no_member h main c.args.reached.now home c.args.tops.now c.args.file c.args.names.now at c.args.dotted c.in-Some.import c.package_meant.result c.spelled_of-name.result.now c.member_meant.result c.start_at.result c.in-Some.is (c.package_meant.ensures h main c.args.reached.now home at) c.spelled_of-name.ensures c.in-None.is
-    (λ w is. c.member_meant.ensures h main w at.tops_are is) (c.is_passed_over.ensures.none c.if-is_passed_over.false)
-    (λ out. let never = c.if-is_left_out.ensures.1 (subst (λ fs. slice_get fs c.in-Some.import ≡ Some finds.LeftOut) (sym c.deref.ensures.value) out) in absurd (cc)) c.start_at.ensures
+returns-in-None c h main home tops file at meant member =
+    by_no_member h main c.args.reached.now home tops file c.args.names.now at c.args.dotted c.in-Some.number c.args.import c.args.member c.start_at.result c.in-Some.is meant c.in-None.is member (c.is_passed_over.ensures.none c.if-is_passed_over.false)
+    (λ out. let never = c.if-is_left_out.ensures.1 (subst (λ fs. slice_get fs c.in-Some.number ≡ Some finds.LeftOut) (sym c.deref.ensures.value) out) in absurd (cc)) c.start_at.ensures

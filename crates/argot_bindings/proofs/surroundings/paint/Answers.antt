@@ -1,9 +1,0 @@
-use Rattle.std.proofs.Common.{arith}
-use Rattle.argot_bindings.proofs.surroundings.paint.Goals as goal
-
-pub returns : goal.returns
-returns c = record {
-  as_long = c.loop-token.invariant.as_long;
-  inside = λ t low high within. c.loop-token.invariant.inside t low (omega (arith, c.min-end.ensures, c.loop-token-test.false)) within;
-  others = c.loop-token.invariant.others;
-}
