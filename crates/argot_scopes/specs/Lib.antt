@@ -7,3 +7,4 @@ pub mod Again
 pub mod Names
 pub mod Earliest
 pub mod Tables
+pub mod Shapes

@@ -5,6 +5,7 @@ use Rattle.argot_tree.specs.Trees.{SpellsTree}
 use Rattle.argot_bindings.specs.Listing.{AreBindings}
 use Rattle.argot_scopes.specs.declared.file.FileNames.{FileNames}
 use Rattle.argot_scopes.specs.News.{AreNews}
+use Rattle.argot_scopes.specs.Shapes.{AreShapes}
 use Rattle.argot_scopes.specs.Tables.{AreFirstNames, AreLinks}
 
 -- the lists and tables are those of the file's bytes, tokens and nodes, and the tree spells tokens
@@ -15,3 +16,4 @@ pub record AreNames (n : FileNames) : Type 0 where
   pub first_names : AreFirstNames n.bytes.now n.tokens.now n.bindings.brought.items (length n.bindings.brought.items) n.firsts
   pub are_new : AreNews n.bytes.now n.tokens.now n.bindings.brought.items n.news.items
   pub links : AreLinks n.bytes.now n.tokens.now n.bindings.brought.items n.news.items n.links
+  pub shapes : AreShapes n.bytes.now n.tokens.now n.bindings.brought.items (length n.bindings.brought.items) n.shapes.items

@@ -13,6 +13,7 @@ use crate::firsts::firsts_of;
 use crate::links::{Links, links_of};
 use crate::meant::local_meant;
 use crate::news::news_of;
+use crate::shapes::shapes_of;
 use argot_bindings::{Bindings, Brought, bindings_of};
 use argot_text::Memory;
 use argot_tree::{Token, Tree};
@@ -31,6 +32,8 @@ pub struct FileNames<'a> {
     pub firsts: IndexMap<(u32, &'a [u8]), usize>,
     /// The new names of each block and text.
     pub links: Links<'a>,
+    /// For each shape of a text whether a name that comes into a block has it.
+    pub shapes: Vec<bool>,
 }
 
 /// The names of a file.
@@ -50,6 +53,7 @@ pub fn names_of<'a>(
     let firsts = firsts_of(alloc, bytes, tokens, &bindings.brought)?;
     let news = news_of(alloc, bytes, tokens, &bindings.brought, &firsts)?;
     let links = links_of(alloc, bytes, tokens, &bindings.brought, &news)?;
+    let shapes = shapes_of(alloc, bytes, tokens, &bindings.brought)?;
     Ok(FileNames {
         bytes,
         tokens,
@@ -58,6 +62,7 @@ pub fn names_of<'a>(
         news,
         firsts,
         links,
+        shapes,
     })
 }
 

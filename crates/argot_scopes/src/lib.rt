@@ -9,6 +9,7 @@ mod firsts;
 mod links;
 mod meant;
 mod news;
+mod shapes;
 mod texts;
 
 pub use again::first_again;

@@ -7,6 +7,7 @@ ghost use Rattle.argot_scopes.specs.Names.{AreNames};
 use crate::file::FileNames;
 use crate::firsts::item_at;
 use crate::links::number_at;
+use crate::shapes::has_shape;
 use crate::texts::{is_blank, is_spelled};
 use argot_bindings::{Brought, block_at, innermost};
 use argot_tree::Token;
@@ -85,6 +86,9 @@ pub fn local_meant(names: &FileNames, token: u32, name: &[u8]) -> Option<Brought
     ensures { IsBest names.now.bytes.now names.now.tokens.now names.now.bindings.brought.items names.now.news.items token name.now (length names.now.bindings.brought.items) result }
 {
     let blocks = names.bindings.blocks.as_slice();
+    if !has_shape(&names.shapes, name) {
+        return None;
+    }
     let mut at = innermost(blocks, token);
     while let Some(k) = at {
         let block = block_at(blocks, k);
