@@ -1,8 +1,8 @@
 // The lines: `problem NUMBER NAME`, with ` with escapes` behind where these are asked for, and for what the problem names
 // `source FUNCTION`, `sink FUNCTION`, `sanitizer FUNCTION`, `validator FUNCTION`, `point FUNCTION` and `place PLACE NAME`.
 use argot_config::{Config, ConfigFault, Maker, fallback, problem, read};
-use argot_notation::read_program;
 use argot_plain::{Problem, Program};
+use argot_plain_text::read_program;
 use argot_text::{Memory, Out, Text};
 use std::alloc::Global;
 

@@ -1,4 +1,4 @@
-//! A window for maintainers: prints what a configuration asks of a program that is written down as `argot_notation` has it.
+//! A window for maintainers: prints what a configuration asks of a program that is written down as `argot_plain_text` has it.
 //!
 //! It reads `config.json` and `program.txt` in the folder where it runs; an empty `config.json` stands for none, which has
 //! one problem. It prints for each problem a line with its number and its name, and a line for each function and place

@@ -2,7 +2,7 @@
 use crate::answer::{answer, config_of};
 use crate::texts::{CASES, case};
 use argot_config::problem;
-use argot_notation::read_program;
+use argot_plain_text::read_program;
 use std::test::Fail;
 
 #[test]

@@ -4,13 +4,13 @@ use Rattle.argot_tree.specs.declared.token.Token.{Token}
 use Rattle.argot_tree.specs.declared.tree.TreeNode.{TreeNode}
 use Rattle.argot_tree.specs.Forests.{Forest, nodes_from}
 use Rattle.argot_tree.specs.Trees.{IsLongestPart, BeginsNoPart}
-use Rattle.argot_spelling.specs.declared.post.Post.{Post}
-use Rattle.argot_spelling.specs.Posts.{posts}
-use Rattle.argot_spelling.specs.Reading.{The}
-use Rattle.argot_spelling.specs.Reader.{read}
-use Rattle.argot_spelling.specs.Rooms.{room, rank}
-use Rattle.argot_spelling.specs.Laws.{IsAlone}
-use Rattle.argot_spelling.proofs.Far.Alone.{read_longest, read_none}
+use Rattle.argot_parse_reader.specs.declared.post.Post.{Post}
+use Rattle.argot_parse_reader.specs.Posts.{posts}
+use Rattle.argot_parse_reader.specs.Reading.{The}
+use Rattle.argot_parse_reader.specs.Reader.{read}
+use Rattle.argot_parse_reader.specs.Rooms.{room, rank}
+use Rattle.argot_parse_reader.specs.Laws.{IsAlone}
+use Rattle.argot_parse_reader.proofs.Far.Alone.{read_longest, read_none}
 use Rattle.argot_grammar.specs.declared.alone.Part.TheVariants as parts
 use Rattle.argot_grammar.specs.declared.alone.Alone.{Alone}
 use Rattle.argot_grammar.specs.declared.alone.Alone.TheVariants.{Expression, Other}

@@ -5,11 +5,11 @@ use Rattle.argot_tree.specs.declared.keyword.Keyword.TheVariants as words
 use Rattle.argot_tree.specs.declared.node_kind.NodeKind.TheVariants as nodes
 use Rattle.argot_tree.specs.declared.token.Token.{Token}
 use Rattle.argot_tree.specs.Grammar.{Block}
-use Rattle.argot_spelling.specs.declared.post.Post.{Post}
-use Rattle.argot_spelling.specs.Reading.{The, Ifs, Labels, closed_all, put, is_word}
-use Rattle.argot_spelling.specs.StatementReader.{labels, condition_by, else_by}
-use Rattle.argot_spelling.specs.Reader.{read}
-use Rattle.argot_spelling.proofs.Steps.{read_more}
+use Rattle.argot_parse_reader.specs.declared.post.Post.{Post}
+use Rattle.argot_parse_reader.specs.Reading.{The, Ifs, Labels, closed_all, put, is_word}
+use Rattle.argot_parse_reader.specs.StatementReader.{labels, condition_by, else_by}
+use Rattle.argot_parse_reader.specs.Reader.{read}
+use Rattle.argot_parse_reader.proofs.Steps.{read_more}
 
 -- the newest of what was begun
 pub pushed : (begun more : List (ℕ × ℕ)) (item : ℕ × ℕ) → more ≡ begun ++ item ∷ [] → reverse more ≡ item ∷ reverse begun

@@ -1,15 +1,15 @@
 // Blocks and lists of statements, and labels.
-#![tactic(auto, using(argot_spelling::proofs::Steps::read_more, argot_spelling::proofs::Steps::read_none, argot_spelling::proofs::Grows::kept))]
+#![tactic(auto, using(argot_parse_reader::proofs::Steps::read_more, argot_parse_reader::proofs::Steps::read_none, argot_parse_reader::proofs::Grows::kept))]
 
 ghost use Rattle.std.specs.Prelude.{◌<◌, ◌+◌, length, IfOk, []};
 ghost use Rattle.argot_tree.specs.Grammar.{Block, Stmts, MaybeLabel};
-ghost use Rattle.argot_spelling.specs.Reading.{The, Gives};
-ghost use Rattle.argot_spelling.specs.StatementReader.{label_by};
-ghost use Rattle.argot_spelling.specs.Reader.{read};
+ghost use Rattle.argot_parse_reader.specs.Reading.{The, Gives};
+ghost use Rattle.argot_parse_reader.specs.StatementReader.{label_by};
+ghost use Rattle.argot_parse_reader.specs.Reader.{read};
 
 use crate::fields::closed_by_brace;
 use crate::statements::stmt;
-use argot_steps::{
+use argot_parse_tokens::{
     Writer, close, close_all, ends_stmt_at, ends_stmts_at, expect, is_label, is_mark, is_name,
     missing, put, semicolon_at, undo,
 };

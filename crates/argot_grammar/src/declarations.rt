@@ -1,19 +1,19 @@
 // Declarations, and tokens with balanced brackets.
-#![tactic(auto, using(argot_spelling::proofs::Steps::read_more, argot_spelling::proofs::Steps::read_none, argot_spelling::proofs::Grows::kept))]
+#![tactic(auto, using(argot_parse_reader::proofs::Steps::read_more, argot_parse_reader::proofs::Steps::read_none, argot_parse_reader::proofs::Grows::kept))]
 
 ghost use Rattle.std.specs.Prelude.{◌≡◌, ◌<◌, ◌≤◌, length, IfOk, IfSome, IfNone, vec_len, take, true, false};
 ghost use Rattle.argot_tree.specs.Grammar.{Constant, Variable, Decl, Declared, DeclaredList, MaybeTyped, MaybeValues, TypeParams, Balanced};
 ghost use Rattle.argot_tree.specs.declared.mark.Mark.TheVariants.{CloseParen};
-ghost use Rattle.argot_spelling.specs.Reading.{The, Gives, Settles, is_mark};
-ghost use Rattle.argot_spelling.specs.DeclarationReader.{values_by, typed_values_by, declared_by, named_type_by, type_by, sort_by, group_kind, decl_kind};
+ghost use Rattle.argot_parse_reader.specs.Reading.{The, Gives, Settles, is_mark};
+ghost use Rattle.argot_parse_reader.specs.DeclarationReader.{values_by, typed_values_by, declared_by, named_type_by, type_by, sort_by, group_kind, decl_kind};
 ghost use Rattle.argot_grammar.specs.Sorts.{sort_of};
-ghost use Rattle.argot_spelling.specs.FileReader.{in_brackets_by};
-ghost use Rattle.argot_spelling.specs.Reader.{read};
+ghost use Rattle.argot_parse_reader.specs.FileReader.{in_brackets_by};
+ghost use Rattle.argot_parse_reader.specs.Reader.{read};
 
 use crate::expressions::expressions;
 use crate::fields::names;
 use crate::types::any_type;
-use argot_steps::{
+use argot_parse_tokens::{
     Writer, close, expect, is_generic, is_mark, is_name, is_word, missing, no_bracket_at,
     opens_bracket, put, semicolon_at, type_at, undo,
 };

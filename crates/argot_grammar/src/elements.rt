@@ -1,13 +1,13 @@
 // What stands in the braces of a composite literal.
-#![tactic(auto, using(argot_spelling::proofs::Steps::read_more, argot_spelling::proofs::Steps::read_none, argot_spelling::proofs::Grows::kept))]
+#![tactic(auto, using(argot_parse_reader::proofs::Steps::read_more, argot_parse_reader::proofs::Steps::read_none, argot_parse_reader::proofs::Grows::kept))]
 
 ghost use Rattle.std.specs.Prelude.{IfOk};
 ghost use Rattle.argot_tree.specs.Grammar.{Elems, Items, Item, Value};
-ghost use Rattle.argot_spelling.specs.Reading.{The, Gives};
-ghost use Rattle.argot_spelling.specs.Reader.{read};
+ghost use Rattle.argot_parse_reader.specs.Reading.{The, Gives};
+ghost use Rattle.argot_parse_reader.specs.Reader.{read};
 
 use crate::expressions::level;
-use argot_steps::{Writer, close, expect_list, goes_on, is_mark, missing, put, undo};
+use argot_parse_tokens::{Writer, close, expect_list, goes_on, is_mark, missing, put, undo};
 use argot_text::Memory;
 use argot_tree::{Mark, NodeKind, Token};
 

@@ -1,15 +1,17 @@
 // Expressions, and expressions or types.
-#![tactic(auto, using(argot_spelling::proofs::Steps::read_more, argot_spelling::proofs::Steps::read_none, argot_spelling::proofs::Grows::kept))]
+#![tactic(auto, using(argot_parse_reader::proofs::Steps::read_more, argot_parse_reader::proofs::Steps::read_none, argot_parse_reader::proofs::Grows::kept))]
 
 ghost use Rattle.std.specs.Prelude.{◌≡◌, IfOk, Some};
 ghost use Rattle.argot_tree.specs.Grammar.{Level, Exprs, Either, Eithers};
-ghost use Rattle.argot_spelling.specs.Reading.{The, UnaryOr, PrimaryOr, Climb, MoreExprs, Gives};
-ghost use Rattle.argot_spelling.specs.ExpressionReader.{climbs};
-ghost use Rattle.argot_spelling.specs.Reader.{read};
+ghost use Rattle.argot_parse_reader.specs.Reading.{The, UnaryOr, PrimaryOr, Climb, MoreExprs, Gives};
+ghost use Rattle.argot_parse_reader.specs.ExpressionReader.{climbs};
+ghost use Rattle.argot_parse_reader.specs.Reader.{read};
 
 use crate::operands::operand;
 use crate::suffixes::suffixes;
-use argot_steps::{Writer, close, goes_on, is_mark, level_at, recast, typed, unary_at, undo};
+use argot_parse_tokens::{
+    Writer, close, goes_on, is_mark, level_at, recast, typed, unary_at, undo,
+};
 use argot_text::Memory;
 use argot_tree::{Mark, NodeKind, Token};
 

@@ -1,16 +1,16 @@
 // Fields of structs, elements of interfaces, and names.
-#![tactic(auto, using(argot_spelling::proofs::Steps::read_more, argot_spelling::proofs::Steps::read_none, argot_spelling::proofs::Grows::kept))]
+#![tactic(auto, using(argot_parse_reader::proofs::Steps::read_more, argot_parse_reader::proofs::Steps::read_none, argot_parse_reader::proofs::Grows::kept))]
 
 ghost use Rattle.std.specs.Prelude.{◌≡◌, IfOk, IfSome, IfNone, Some, take, true, false};
 ghost use Rattle.argot_tree.specs.Grammar.{Names, Fields, Field, Elements, Element};
 ghost use Rattle.argot_tree.specs.declared.mark.Mark.TheVariants.{CloseBrace};
-ghost use Rattle.argot_spelling.specs.Reading.{The, Gives, is_mark};
-ghost use Rattle.argot_spelling.specs.TypeReader.{embedded_by, tag_by, named_field_by};
-ghost use Rattle.argot_spelling.specs.Reader.{read};
+ghost use Rattle.argot_parse_reader.specs.Reading.{The, Gives, is_mark};
+ghost use Rattle.argot_parse_reader.specs.TypeReader.{embedded_by, tag_by, named_field_by};
+ghost use Rattle.argot_parse_reader.specs.Reader.{read};
 
 use crate::signatures::signature;
 use crate::types::{any_type, named_type};
-use argot_steps::{
+use argot_parse_tokens::{
     Writer, close, is_mark, is_name, missing, name_behind_comma, names_then_type, put,
     semicolon_at, text_at, type_behind_names, undo,
 };

@@ -1,16 +1,16 @@
 // Heads of statements, and `if`.
-#![tactic(auto, using(argot_spelling::proofs::Steps::read_more, argot_spelling::proofs::Steps::read_none, argot_spelling::proofs::Grows::kept))]
+#![tactic(auto, using(argot_parse_reader::proofs::Steps::read_more, argot_parse_reader::proofs::Steps::read_none, argot_parse_reader::proofs::Grows::kept))]
 
 ghost use Rattle.std.specs.Prelude.{◌≡◌, ◌≤◌, IfOk, OnOk, IfSome, IfNone, vec_len, take, [], true, false};
-ghost use Rattle.argot_spelling.specs.Reading.{Ifs, Gives, Settles};
-ghost use Rattle.argot_spelling.specs.StatementReader.{put_empty, listed_by, opened_by, opening_by, condition_behind_by, condition_by};
-ghost use Rattle.argot_spelling.specs.Reader.{read};
+ghost use Rattle.argot_parse_reader.specs.Reading.{Ifs, Gives, Settles};
+ghost use Rattle.argot_parse_reader.specs.StatementReader.{put_empty, listed_by, opened_by, opening_by, condition_behind_by, condition_by};
+ghost use Rattle.argot_parse_reader.specs.Reader.{read};
 ghost use Rattle.argot_tree.specs.TokensAt.{kind_at, is_semicolon};
 
 use crate::blocks::block;
 use crate::expressions::level;
 use crate::statements::{assign, more_expressions_behind, simple, simple_behind};
-use argot_steps::{
+use argot_parse_tokens::{
     Writer, assign_at, close, close_all, defines, guards, is_mark, is_word, missing,
     paren_behind_first_guard, put, range_behind_define, ranges, semicolon_at, undo,
     values_behind_names,

@@ -1,9 +1,9 @@
 //! Reads types, expressions, statements and declarations, as the tokens come, without going back.
 //!
-//! Each function of the parser gives what the reader of argot_spelling gives for its part: where the part ends, and its
+//! Each function of the parser gives what the reader of argot_parse_reader gives for its part: where the part ends, and its
 //! nodes behind those that were there. Nodes are written behind their children, each with the size of its tree.
 //! `expression` and `part` answer the longest part that begins at a token, or that none does. argot_parse stands on the
-//! parts that are public here. argot_steps has what the code asks of tokens and how it writes nodes, and argot_linking puts
+//! parts that are public here. argot_parse_tokens has what the code asks of tokens and how it writes nodes, and argot_parse_nodes puts
 //! the nodes before their children. Lists, chains of operators, of suffixes, of labels and of `else if` are loops, so the
 //! calls are as deep as the nesting.
 #![tactic(auto)]

@@ -1,20 +1,20 @@
 // `select` and `for`.
-#![tactic(auto, using(argot_spelling::proofs::Steps::read_more, argot_spelling::proofs::Steps::read_none, argot_spelling::proofs::Grows::kept))]
+#![tactic(auto, using(argot_parse_reader::proofs::Steps::read_more, argot_parse_reader::proofs::Steps::read_none, argot_parse_reader::proofs::Grows::kept))]
 
 ghost use Rattle.std.specs.Prelude.{◌≡◌, ◌<◌, ◌≤◌, length, IfOk, vec_len, if◌then◌else◌};
 ghost use Rattle.argot_tree.specs.declared.mark.Mark.TheVariants.{Assign};
 ghost use Rattle.argot_tree.specs.declared.node_kind.NodeKind.TheVariants.{AssignRange, DefineRange};
 ghost use Rattle.argot_tree.specs.Grammar.{Comms, Comm, MaybeCondition, MaybePost};
-ghost use Rattle.argot_spelling.specs.Reading.{The, Gives, Settles, is_mark};
-ghost use Rattle.argot_spelling.specs.StatementReader.{select_by, received_by, comm_behind_by, loop_by, parts_by, range_by, looped_by, for_by};
-ghost use Rattle.argot_spelling.specs.Reader.{read};
+ghost use Rattle.argot_parse_reader.specs.Reading.{The, Gives, Settles, is_mark};
+ghost use Rattle.argot_parse_reader.specs.StatementReader.{select_by, received_by, comm_behind_by, loop_by, parts_by, range_by, looped_by, for_by};
+ghost use Rattle.argot_parse_reader.specs.Reader.{read};
 
 use crate::blocks::block;
 use crate::expressions::level;
 use crate::heads::{opening, put_empty};
 use crate::statements::{more_expressions_behind, simple};
 use crate::switches::clause;
-use argot_steps::{
+use argot_parse_tokens::{
     Writer, clause_at, close, expect, is_mark, is_word, missing, range_at, ranges, semicolon_at,
     undo,
 };

@@ -1,17 +1,17 @@
 // Operands.
-#![tactic(auto, using(argot_spelling::proofs::Steps::read_more, argot_spelling::proofs::Steps::read_none, argot_spelling::proofs::Grows::kept))]
+#![tactic(auto, using(argot_parse_reader::proofs::Steps::read_more, argot_parse_reader::proofs::Steps::read_none, argot_parse_reader::proofs::Grows::kept))]
 
 ghost use Rattle.std.specs.Prelude.{◌≡◌, ◌<◌, ◌≤◌, ◌+◌, ◌^◌, length, IfOk, IsTrue, vec_len};
-ghost use Rattle.argot_spelling.specs.Reading.{OperandOr, Gives, Settles};
-ghost use Rattle.argot_spelling.specs.ExpressionReader.{is_open_array, name_use_by, name_by, parens_by, func_by, behind_signature_by, open_array_by, type_operand_by, behind_type_by, converted_by};
-ghost use Rattle.argot_spelling.specs.Reader.{read};
+ghost use Rattle.argot_parse_reader.specs.Reading.{OperandOr, Gives, Settles};
+ghost use Rattle.argot_parse_reader.specs.ExpressionReader.{is_open_array, name_use_by, name_by, parens_by, func_by, behind_signature_by, open_array_by, type_operand_by, behind_type_by, converted_by};
+ghost use Rattle.argot_parse_reader.specs.Reader.{read};
 
 use crate::blocks::block;
 use crate::elements::elems;
 use crate::expressions::{either, level};
 use crate::signatures::signature;
 use crate::types::{any_type, named_type, only_type};
-use argot_steps::{
+use argot_parse_tokens::{
     Writer, bracket_behind_dots, close, composite_at, conversion_at, expect, expect_list, is_mark,
     is_name, is_word, keep, literal_at, missing, put, undo,
 };

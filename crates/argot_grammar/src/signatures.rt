@@ -1,14 +1,14 @@
 // Signatures and parameters.
-#![tactic(auto, using(argot_spelling::proofs::Steps::read_more, argot_spelling::proofs::Steps::read_none, argot_spelling::proofs::Grows::kept))]
+#![tactic(auto, using(argot_parse_reader::proofs::Steps::read_more, argot_parse_reader::proofs::Steps::read_none, argot_parse_reader::proofs::Grows::kept))]
 
 ghost use Rattle.std.specs.Prelude.{◌<◌, length, IfOk};
 ghost use Rattle.argot_tree.specs.Grammar.{Signature, Params, Types, NamedList};
-ghost use Rattle.argot_spelling.specs.Reading.{The, Gives};
-ghost use Rattle.argot_spelling.specs.TypeReader.{result_by, listed_by};
-ghost use Rattle.argot_spelling.specs.Reader.{read};
+ghost use Rattle.argot_parse_reader.specs.Reading.{The, Gives};
+ghost use Rattle.argot_parse_reader.specs.TypeReader.{result_by, listed_by};
+ghost use Rattle.argot_parse_reader.specs.Reader.{read};
 
 use crate::types::any_type;
-use argot_steps::{
+use argot_parse_tokens::{
     Writer, close, expect_list, goes_on, is_mark, is_name, missing, names_then_parameter, put,
     type_at, undo,
 };

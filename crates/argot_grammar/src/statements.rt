@@ -1,12 +1,12 @@
 // Statements.
-#![tactic(auto, using(argot_spelling::proofs::Steps::read_more, argot_spelling::proofs::Steps::read_none, argot_spelling::proofs::Grows::kept))]
+#![tactic(auto, using(argot_parse_reader::proofs::Steps::read_more, argot_parse_reader::proofs::Steps::read_none, argot_parse_reader::proofs::Grows::kept))]
 
 ghost use Rattle.std.specs.Prelude.{◌<◌, ◌≤◌, length, IfOk, Some, vec_len};
 ghost use Rattle.argot_tree.specs.declared.token.TokenKind.TheVariants as kinds;
 ghost use Rattle.argot_tree.specs.Grammar.{Stmt, Simple};
-ghost use Rattle.argot_spelling.specs.Reading.{The, Gives, Settles};
-ghost use Rattle.argot_spelling.specs.StatementReader.{stmt_by, decl_stmt_by, keyword_by, jump_by, return_by, goto_by, exprs_node_by, more_by, assigned_by, assign_by, simple_behind_by, define_by};
-ghost use Rattle.argot_spelling.specs.Reader.{read};
+ghost use Rattle.argot_parse_reader.specs.Reading.{The, Gives, Settles};
+ghost use Rattle.argot_parse_reader.specs.StatementReader.{stmt_by, decl_stmt_by, keyword_by, jump_by, return_by, goto_by, exprs_node_by, more_by, assigned_by, assign_by, simple_behind_by, define_by};
+ghost use Rattle.argot_parse_reader.specs.Reader.{read};
 
 use crate::blocks::{block, labelled, maybe_label};
 use crate::declarations::decl;
@@ -15,7 +15,7 @@ use crate::fields::names;
 use crate::heads::ifs;
 use crate::loops::{for_stmt, select_stmt};
 use crate::switches::switch_stmt;
-use argot_steps::{
+use argot_parse_tokens::{
     Writer, assign_at, close, defines, ends_stmt_at, is_label, is_mark, is_name, kind_at, missing,
     op_assign_at, put, undo, values_behind_names,
 };

@@ -1,15 +1,17 @@
 // What goes on behind an operand: selectors, indexes, slices, type assertions and calls.
-#![tactic(auto, using(argot_spelling::proofs::Steps::read_more, argot_spelling::proofs::Steps::read_none, argot_spelling::proofs::Grows::kept))]
+#![tactic(auto, using(argot_parse_reader::proofs::Steps::read_more, argot_parse_reader::proofs::Steps::read_none, argot_parse_reader::proofs::Grows::kept))]
 
 ghost use Rattle.std.specs.Prelude.{◌≡◌, ◌<◌, ◌≤◌, ◌+◌, length, IfOk, Some, vec_len};
 ghost use Rattle.argot_tree.specs.declared.node_kind.NodeKind.TheVariants as nodes;
-ghost use Rattle.argot_spelling.specs.Reading.{Suffixes, Gives, Settles};
-ghost use Rattle.argot_spelling.specs.ExpressionReader.{suffix_by, dot_by, bracket_by, bracket_end, third_by, second_by, from_start_by, behind_first_by, call_by, arguments_by};
-ghost use Rattle.argot_spelling.specs.Reader.{read};
+ghost use Rattle.argot_parse_reader.specs.Reading.{Suffixes, Gives, Settles};
+ghost use Rattle.argot_parse_reader.specs.ExpressionReader.{suffix_by, dot_by, bracket_by, bracket_end, third_by, second_by, from_start_by, behind_first_by, call_by, arguments_by};
+ghost use Rattle.argot_parse_reader.specs.Reader.{read};
 
 use crate::expressions::{eithers, level};
 use crate::types::any_type;
-use argot_steps::{Writer, close, expect, expect_list, is_mark, is_name, missing, put, undo};
+use argot_parse_tokens::{
+    Writer, close, expect, expect_list, is_mark, is_name, missing, put, undo,
+};
 use argot_text::Memory;
 use argot_tree::{Mark, NodeKind, Token};
 

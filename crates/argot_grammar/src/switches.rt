@@ -1,17 +1,17 @@
 // Switches.
-#![tactic(auto, using(argot_spelling::proofs::Steps::read_more, argot_spelling::proofs::Steps::read_none, argot_spelling::proofs::Grows::kept))]
+#![tactic(auto, using(argot_parse_reader::proofs::Steps::read_more, argot_parse_reader::proofs::Steps::read_none, argot_parse_reader::proofs::Grows::kept))]
 
 ghost use Rattle.std.specs.Prelude.{◌≡◌, ◌<◌, ◌≤◌, ◌+◌, length, IfOk, vec_len};
 ghost use Rattle.argot_tree.specs.Grammar.{Cases, Case};
-ghost use Rattle.argot_spelling.specs.Reading.{The, Gives, Settles};
-ghost use Rattle.argot_spelling.specs.StatementReader.{switched_by, tagged_by, named_guard_by, tag_by, init_by, defined_by, opened_switch_by, head_by, switch_by, clause_by};
-ghost use Rattle.argot_spelling.specs.Reader.{read};
+ghost use Rattle.argot_parse_reader.specs.Reading.{The, Gives, Settles};
+ghost use Rattle.argot_parse_reader.specs.StatementReader.{switched_by, tagged_by, named_guard_by, tag_by, init_by, defined_by, opened_switch_by, head_by, switch_by, clause_by};
+ghost use Rattle.argot_parse_reader.specs.Reader.{read};
 
 use crate::blocks::stmts;
 use crate::expressions::{eithers, level, primary};
 use crate::heads::{opening, put_empty};
 use crate::statements::more_expressions_behind;
-use argot_steps::{
+use argot_parse_tokens::{
     Writer, clause_at, close, expect, guards, is_mark, is_name, is_primary, is_word, missing,
     paren_behind_guard, put, semicolon_at, undo,
 };

@@ -1,16 +1,16 @@
 // Types.
-#![tactic(auto, using(argot_spelling::proofs::Steps::read_more, argot_spelling::proofs::Steps::read_none, argot_spelling::proofs::Grows::kept))]
+#![tactic(auto, using(argot_parse_reader::proofs::Steps::read_more, argot_parse_reader::proofs::Steps::read_none, argot_parse_reader::proofs::Grows::kept))]
 
 ghost use Rattle.std.specs.Prelude.{◌≡◌, ◌<◌, length, IfOk, Some};
 ghost use Rattle.argot_tree.specs.Grammar.{AnyType, OnlyType};
-ghost use Rattle.argot_spelling.specs.Reading.{The, Gives};
-ghost use Rattle.argot_spelling.specs.TypeReader.{named_type_by, type_parens_by, array_by, bracketed_by, map_by, chan_by, receive_by, func_type_by, struct_by, interface_by};
-ghost use Rattle.argot_spelling.specs.Reader.{read};
+ghost use Rattle.argot_parse_reader.specs.Reading.{The, Gives};
+ghost use Rattle.argot_parse_reader.specs.TypeReader.{named_type_by, type_parens_by, array_by, bracketed_by, map_by, chan_by, receive_by, func_type_by, struct_by, interface_by};
+ghost use Rattle.argot_parse_reader.specs.Reader.{read};
 
 use crate::expressions::level;
 use crate::fields::{elements, fields};
 use crate::signatures::signature;
-use argot_steps::{
+use argot_parse_tokens::{
     Writer, close, expect, is_dotted, is_mark, is_name, is_word, missing, name_behind_dot, put,
     undo,
 };

@@ -1,39 +1,39 @@
 -- What a survey says of the library's texts is what the definitions say.
 use Rattle.std.proofs.Common.{◌≡◌, ℕ, List, [], true, Some, refl, sym, ap, subst, arith}
 use Rattle.argot_stubs.specs.Stubs.{HasStub, errors, fmt, os, exec, strings, log, strconv, sync}
-use Rattle.argot_naming.specs.declared.home.Home.{Home}
-use Rattle.argot_naming.specs.declared.home.Home.TheVariants as homes
-use Rattle.argot_naming.specs.Lists.{In, IsListOf}
-use Rattle.argot_naming.specs.Handed.{Handed}
-use Rattle.argot_naming.specs.Homes.{IsFileOf, IsFolder, IsLeftOut, Finds, of_module, handwritten, of_library}
-use Rattle.argot_naming.specs.Library.{IsNamed, AreNamed}
-use Rattle.argot_naming.specs.Agreeing.{PathBefore}
-use Rattle.argot_packages.specs.declared.written.Written.{Written}
-use Rattle.argot_packages.specs.declared.find.Found.{Found}
-use Rattle.argot_packages.specs.declared.survey.Survey.{Survey}
-use Rattle.argot_packages.specs.Found.{IsFound}
-use Rattle.argot_packages.specs.Found.IsFound.{folder as found_folder, library as found_library, unhanded, left_out as found_left_out, nothing}
-use Rattle.argot_packages.specs.Surveyed.{IsSurvey}
-use Rattle.argot_packages.proofs.Lists.{list_none, list_same, get_below, get_there}
-use Rattle.argot_packages.proofs.Surveys.{owned, one_owner, first_owned, file_owned, finds_one}
-use Rattle.argot_packages.proofs.Reached.{reached_proper}
+use Rattle.argot_names_rules.specs.declared.package_key.PackageKey.{PackageKey}
+use Rattle.argot_names_rules.specs.declared.package_key.PackageKey.TheVariants as homes
+use Rattle.argot_names_rules.specs.Lists.{In, IsListOf}
+use Rattle.argot_names_rules.specs.Files.{SourceFiles}
+use Rattle.argot_names_rules.specs.Packages.{IsFileOf, IsFolder, IsLeftOut, Finds, of_module, handwritten, of_library}
+use Rattle.argot_names_rules.specs.Library.{IsNamed, AreNamed}
+use Rattle.argot_names_rules.specs.Agreeing.{PathBefore}
+use Rattle.argot_names_imports.specs.declared.written.Written.{Written}
+use Rattle.argot_names_imports.specs.declared.find.Found.{Found}
+use Rattle.argot_names_imports.specs.declared.survey.Survey.{Survey}
+use Rattle.argot_names_imports.specs.Found.{IsFound}
+use Rattle.argot_names_imports.specs.Found.IsFound.{folder as found_folder, library as found_library, unhanded, left_out as found_left_out, nothing}
+use Rattle.argot_names_imports.specs.Surveyed.{IsSurvey}
+use Rattle.argot_names_imports.proofs.Lists.{list_none, list_same, get_below, get_there}
+use Rattle.argot_names_imports.proofs.Surveys.{owned, one_owner, first_owned, file_owned, finds_one}
+use Rattle.argot_names_imports.proofs.Reached.{reached_proper}
 use Rattle.argot_names.specs.Paths.{library_paths}
 use Rattle.argot_names.specs.Naming.{is_library, IsNamedPath}
 
-library_finds : (h : Handed) (path : List ℕ) (f : Found) → IsFound h path f → is_library f ≡ true → Finds h path (homes.Library path)
+library_finds : (h : SourceFiles) (path : List ℕ) (f : Found) → IsFound h path f → is_library f ≡ true → Finds h path (homes.Library path)
 library_finds h path _ (found_folder finds first) e = absurd (cc)
 library_finds h path _ (found_library finds first) e = finds
 library_finds h path _ (unhanded finds none) e = finds
 library_finds h path _ (found_left_out left) e = absurd (cc)
 library_finds h path _ (nothing k none) e = absurd (cc)
 
-finds_library : (h : Handed) (path : List ℕ) (f : Found) → IsFound h path f → Finds h path (homes.Library path) → is_library f ≡ true
+finds_library : (h : SourceFiles) (path : List ℕ) (f : Found) → IsFound h path f → Finds h path (homes.Library path) → is_library f ≡ true
 finds_library h path _ (found_folder {folder = q} finds first) is = absurd (cc (finds_one h path (homes.Folder q) (homes.Library path) finds is))
 finds_library h path _ (found_library finds first) is = refl
 finds_library h path _ (unhanded finds none) is = refl
 finds_library h path _ (found_left_out left) is = absurd (kept path (homes.Library path) is left)
   where
-    kept : (path : List ℕ) (a : Home) → Finds h path a → IsLeftOut path → ⊥
+    kept : (path : List ℕ) (a : PackageKey) → Finds h path a → IsLeftOut path → ⊥
     kept path _ (of_module k m) left = k left
     kept path _ (handwritten k n f) left = k left
     kept path _ (of_library text k n s i) left = k left
@@ -50,12 +50,12 @@ known_path path text (strconv e _) = (5, ap (λ x. Some x) (sym e))
 known_path path text (strings e _) = (6, ap (λ x. Some x) (sym e))
 known_path path text (sync e _) = (7, ap (λ x. Some x) (sym e))
 
-stub_of : (h : Handed) (path : List ℕ) (a : Home) → Finds h path a → a ≡ homes.Library path → In path library_paths
+stub_of : (h : SourceFiles) (path : List ℕ) (a : PackageKey) → Finds h path a → a ≡ homes.Library path → In path library_paths
 stub_of h path _ (of_module k m) e = absurd (cc)
 stub_of h path _ (handwritten k n f) e = absurd (cc)
 stub_of h path _ (of_library text k n s is) e = known_path path text is
 
-module _ (h : Handed) (main : List ℕ) (s : Survey) (is : IsSurvey h main s) where
+module _ (h : SourceFiles) (main : List ℕ) (s : Survey) (is : IsSurvey h main s) where
   named_is : (path : List ℕ) → IsNamedPath s path → IsNamed h main path
   named_is path n =
       let at = n.names in
@@ -113,7 +113,7 @@ module _ (h : Handed) (main : List ℕ) (s : Survey) (is : IsSurvey h main s) wh
         };
       }
     where
-      library_path : (p : List ℕ) (a : Home) → Finds h p a → a ≡ homes.Library path → p ≡ path
+      library_path : (p : List ℕ) (a : PackageKey) → Finds h p a → a ≡ homes.Library path → p ≡ path
       library_path p _ (of_module k m) e = absurd (cc)
       library_path p _ (handwritten k m f) e = absurd (cc)
       library_path p _ (of_library text k m q i) e = cc
@@ -122,5 +122,5 @@ module _ (h : Handed) (main : List ℕ) (s : Survey) (is : IsSurvey h main s) wh
   are_named paths are = list_same PathBefore (IsNamedPath s) (IsNamed h main) paths are named_is is_named
 
 -- nothing is named where there is no main folder
-pub none_named : (h : Handed) (main : List ℕ) → (IsFolder h main → ⊥) → AreNamed h main []
+pub none_named : (h : SourceFiles) (main : List ℕ) → (IsFolder h main → ⊥) → AreNamed h main []
 none_named h main none = list_none PathBefore (IsNamed h main) (λ p n. none n.reached.there)

@@ -2,10 +2,10 @@
 use Rattle.std.proofs.Common.{◌≡◌, ℕ, zero, suc, ◌+◌, ◌<◌, inl, inr, List, [], ◌∷◌, ◌++◌, Bool, true, false, Some, refl, sym, ap, ◌∙◌, subst, arith}
 use Rattle.std.specs.Prelude.{slice_get, if◌then◌else◌}
 use Rattle.std.proofs.lemmas.Bool.{cases_eq}
-use Rattle.argot_naming.specs.Lists.{IsListOf}
-use Rattle.argot_naming.specs.Agreeing.{PathBefore}
-use Rattle.argot_packages.specs.declared.survey.Survey.{Survey}
-use Rattle.argot_packages.proofs.Lists.{list_none, list_same, list_more, get_below}
+use Rattle.argot_names_rules.specs.Lists.{IsListOf}
+use Rattle.argot_names_rules.specs.Agreeing.{PathBefore}
+use Rattle.argot_names_imports.specs.declared.survey.Survey.{Survey}
+use Rattle.argot_names_imports.proofs.Lists.{list_none, list_same, list_more, get_below}
 use Rattle.argot_names.specs.Paths.{library_paths}
 use Rattle.argot_names.specs.Naming.{NamesAt, IsNamedPath}
 

@@ -1,16 +1,16 @@
 -- What is refused of names, and that nothing is wrong.
 use Rattle.std.proofs.Common.{◌≡◌, ℕ, ◌<◌, List, sym, subst, arith}
 use Rattle.std.specs.Prelude.{Result, Ok, Err, OnOk}
-use Rattle.argot_naming.specs.declared.fault.NameFault.{NameFault}
+use Rattle.argot_names_rules.specs.declared.fault.NameFault.{NameFault}
 use Rattle.argot_text.specs.declared.position.Pos.{Pos}
-use Rattle.argot_naming.specs.Handed.{Handed, Place, IsFirst, position_of}
-use Rattle.argot_naming.specs.Faults.{IsRedeclared, IsUnresolved, Wrong, SecondName, Missing, Cycle, Again, Unknown, order, IsNowhere, Refuses, named, IsResolved}
-use Rattle.argot_naming.specs.declared.fault.NameFault.TheVariants as faults
-use Rattle.argot_reached.specs.declared.reached.Reached.{Reached}
-use Rattle.argot_tops.specs.declared.tops.Tops.{Tops}
-use Rattle.argot_tops.specs.Tops.{AreTops}
+use Rattle.argot_names_rules.specs.Files.{SourceFiles, Place, IsFirst, position_of}
+use Rattle.argot_names_rules.specs.Faults.{IsRedeclared, IsUnresolved, Wrong, SecondName, Missing, Cycle, Again, Unknown, order, IsNowhere, Refuses, named, IsResolved}
+use Rattle.argot_names_rules.specs.declared.fault.NameFault.TheVariants as faults
+use Rattle.argot_names_imports.specs.declared.reached.Reached.{Reached}
+use Rattle.argot_names_tops.specs.declared.tops.Tops.{Tops}
+use Rattle.argot_names_tops.specs.Tops.{AreTops}
 
-module _ (h : Handed) (main : List ℕ) (r : Reached) (t : Tops) (tops : AreTops h main r t) where
+module _ (h : SourceFiles) (main : List ℕ) (r : Reached) (t : Tops) (tops : AreTops h main r t) where
   before_again : (earlier : Wrong) → order earlier < order Again → IsNowhere h main earlier
   before_again SecondName l = tops.reach.one_name
   before_again Missing l = tops.reach.all_found

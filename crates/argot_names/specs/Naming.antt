@@ -1,10 +1,10 @@
 -- Which import of a survey names a text of the library.
 use Rattle.std.specs.Prelude.{◌≡◌, ℕ, Bool, true, false, List, Some, slice_get}
-use Rattle.argot_naming.specs.Lists.{In}
-use Rattle.argot_packages.specs.declared.written.Written.{Written}
-use Rattle.argot_packages.specs.declared.find.Found.{Found}
-use Rattle.argot_packages.specs.declared.find.Found.TheVariants.{Folder, Library, LeftOut, Nothing}
-use Rattle.argot_packages.specs.declared.survey.Survey.{Survey}
+use Rattle.argot_names_rules.specs.Lists.{In}
+use Rattle.argot_names_imports.specs.declared.written.Written.{Written}
+use Rattle.argot_names_imports.specs.declared.find.Found.{Found}
+use Rattle.argot_names_imports.specs.declared.find.Found.TheVariants.{Folder, Library, LeftOut, Nothing}
+use Rattle.argot_names_imports.specs.declared.survey.Survey.{Survey}
 use Rattle.argot_names.specs.Paths.{library_paths}
 
 abbrev pub is_library : Found → Bool

@@ -2,18 +2,17 @@
 ghost use Rattle.std.specs.Prelude.{◌≡◌, ◌<◌, ◌-◌, ◌^◌, ℕ, List, length, IfErr, OnOk};
 ghost use Rattle.argot_tree.specs.declared.lexed.Lexed.{Lexed};
 ghost use Rattle.argot_tree.specs.declared.tree.Tree.{Tree};
-ghost use Rattle.argot_naming.specs.Handed.{position_of};
-ghost use Rattle.argot_naming.specs.Faults.{Refuses, IsNowhere, Again};
-ghost use Rattle.argot_packages.specs.Reads.{handed, bytes_at};
-ghost use Rattle.argot_tops.specs.Places.{place_of};
-ghost use Rattle.argot_tops.specs.Tops.{AreTops};
+ghost use Rattle.argot_names_rules.specs.Files.{position_of};
+ghost use Rattle.argot_names_rules.specs.Faults.{Refuses, IsNowhere, Again};
+ghost use Rattle.argot_names_imports.specs.Reads.{handed, bytes_at};
+ghost use Rattle.argot_names_tops.specs.Places.{place_of};
+ghost use Rattle.argot_names_tops.specs.Tops.{AreTops};
 
-use argot_naming::NameFault;
-use argot_package_faults::{Spot, pos_at};
-use argot_packages::bytes_at;
-use argot_reached::Reached;
+use argot_names_imports::{Reached, bytes_at};
+use argot_names_packages::{Spot, pos_at};
+use argot_names_rules::NameFault;
+use argot_names_tops::{Place, Tops, redeclared};
 use argot_text::{Pos, Sources};
-use argot_tops::{Place, Tops, redeclared};
 use std::alloc::Global;
 
 /// The line and column of a place.

@@ -1,10 +1,10 @@
 // What `flags` finds in small folders: each feature that is left out, where it stands, and what looks like it but isn't.
 ghost use Rattle.std.specs.Prelude.{ℕ, List};
-ghost use Rattle.argot_naming.specs.Agreeing.{Agrees, HasLibrary};
-ghost use Rattle.argot_packages.specs.Reads.{handed};
+ghost use Rattle.argot_names_rules.specs.Agreeing.{Agrees, HasLibrary};
+ghost use Rattle.argot_names_imports.specs.Reads.{handed};
 
 use crate::{Feature, Flag, flags, load};
-use argot_reading::{Folder, folder_of_texts};
+use argot_names_files::{Folder, folder_of_texts};
 use argot_text::{Sequence, Text, Texts};
 use argot_tree::{Entries, Entry};
 use std::alloc::Global;

@@ -1,9 +1,9 @@
 // Whether an import of a package that is reached finds a text of the library.
 ghost use Rattle.std.specs.Prelude.{◌≡◌, ◌<◌, ℕ, true, false, length};
-ghost use Rattle.argot_naming.specs.Lists.{In};
+ghost use Rattle.argot_names_rules.specs.Lists.{In};
 ghost use Rattle.argot_names.specs.Naming.{is_library, IsReachedLeader, NamesAt};
 
-use argot_packages::{Found, Survey, found_at, import_at, leader_at};
+use argot_names_imports::{Found, Survey, found_at, import_at, leader_at};
 use indexmap::IndexSet;
 
 // The number is one of these.

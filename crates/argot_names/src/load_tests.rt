@@ -1,10 +1,10 @@
 // What `load` answers for small folders: each fault of names, and each rule of blocks and scopes.
 ghost use Rattle.std.specs.Prelude.{ℕ, List};
-ghost use Rattle.argot_naming.specs.Agreeing.{Agrees, HasLibrary};
-ghost use Rattle.argot_packages.specs.Reads.{handed};
+ghost use Rattle.argot_names_rules.specs.Agreeing.{Agrees, HasLibrary};
+ghost use Rattle.argot_names_imports.specs.Reads.{handed};
 
 use crate::{NameFault, load};
-use argot_reading::{Folder, folder_of_texts};
+use argot_names_files::{Folder, folder_of_texts};
 use argot_text::{Pos, Texts};
 use std::alloc::Global;
 use std::fmt::Write;

@@ -1,23 +1,22 @@
 // The packages, the declarations and the uses of names.
 ghost use Rattle.std.specs.Prelude.{◌≡◌, ◌<◌, ◌-◌, ◌^◌, ℕ, List, length, IfOk, IfErr, OnOk};
 ghost use Rattle.argot_tree.specs.declared.lexed.Lexed.{Lexed};
-ghost use Rattle.argot_naming.specs.Handed.{Handed};
-ghost use Rattle.argot_naming.specs.Agreeing.{Agrees, HasLibrary};
-ghost use Rattle.argot_naming.specs.Faults.{Refuses, IsResolved, IsNowhere, Again, Unknown};
-ghost use Rattle.argot_naming.specs.Loaded.{IsLoaded};
-ghost use Rattle.argot_packages.specs.Reads.{handed, bytes_at};
-ghost use Rattle.argot_reached.specs.Reached.{homes_of, IsReach};
-ghost use Rattle.argot_tops.specs.Tops.{AreTops};
+ghost use Rattle.argot_names_rules.specs.Files.{SourceFiles};
+ghost use Rattle.argot_names_rules.specs.Agreeing.{Agrees, HasLibrary};
+ghost use Rattle.argot_names_rules.specs.Faults.{Refuses, IsResolved, IsNowhere, Again, Unknown};
+ghost use Rattle.argot_names_rules.specs.Loaded.{IsLoaded};
+ghost use Rattle.argot_names_imports.specs.Reads.{handed, bytes_at};
+ghost use Rattle.argot_names_imports.specs.Reached.{homes_of, IsReach};
+ghost use Rattle.argot_names_tops.specs.Tops.{AreTops};
 ghost use Rattle.argot_names.specs.Names.{AreNames};
 
 use crate::checks::{check_again, place_at};
-use argot_decls::decls_of;
-use argot_naming::NameFault;
-use argot_reached::Reached;
-use argot_reaching::reach;
-use argot_standing::standing_of;
+use argot_names_imports::Reached;
+use argot_names_packages::reach;
+use argot_names_rules::NameFault;
+use argot_names_tops::{Tops, tops_of};
+use argot_names_uses::{decls_of, uses_of};
 use argot_text::{Sequence, Sources};
-use argot_tops::{Tops, tops_of};
 use argot_tree::{Lexed, Tree};
 use argot_typed::{Decl, Packages, Use};
 use std::alloc::Global;
@@ -48,7 +47,7 @@ fn listed(
         Ok(decls) => decls,
         Err(_) => return Err(NameFault::Memory),
     };
-    let standing = match standing_of(alloc, trees, reached, tops, &decls) {
+    let standing = match uses_of(alloc, trees, reached, tops, &decls) {
         Ok(standing) => standing,
         Err(_) => return Err(NameFault::Memory),
     };
@@ -104,7 +103,7 @@ fn names_of(
 
 // The packages with their names.
 fn packages_from(reached: Reached, names: Names) -> Packages
-    ensures { (h : Handed) (main : List ℕ) → IsReach h main reached → AreNames h (homes_of h reached) names → IsLoaded h main result }
+    ensures { (h : SourceFiles) (main : List ℕ) → IsReach h main reached → AreNames h (homes_of h reached) names → IsLoaded h main result }
 {
     Packages {
         packages: Sequence::from_vec(reached.packages),

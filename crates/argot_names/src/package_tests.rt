@@ -1,14 +1,14 @@
 // Folders of packages: which fault each has and where, what the packages are where there is none, and which texts of the
 // library are named.
 ghost use Rattle.std.specs.Prelude.{ℕ, List, IfOk, IfErr};
-ghost use Rattle.argot_naming.specs.Agreeing.{Agrees, HasLibrary};
-ghost use Rattle.argot_packages.specs.Reads.{handed};
+ghost use Rattle.argot_names_rules.specs.Agreeing.{Agrees, HasLibrary};
+ghost use Rattle.argot_names_imports.specs.Reads.{handed};
 
 use crate::stubs_named;
-use argot_naming::NameFault;
-use argot_reached::{Reached, package_of, target_number};
-use argot_reaching::reach;
-use argot_reading::{Folder, ReadingFault, folder_of_texts, read_files, sources_of};
+use argot_names_files::{Folder, ReadingFault, folder_of_texts, read_files, sources_of};
+use argot_names_imports::{Reached, package_of, target_number};
+use argot_names_packages::reach;
+use argot_names_rules::NameFault;
 use argot_text::{Memory, Sequence, Text, Texts};
 use std::alloc::Global;
 use std::test::Fail;

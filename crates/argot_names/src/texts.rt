@@ -1,14 +1,14 @@
 // The texts of the library that a program names.
 ghost use Rattle.std.specs.Prelude.{◌≡◌, ◌<◌, ◌++◌, ◌∷◌, [], ℕ, Some, length, slice_get, OnOk, IfOk, if◌then◌else◌};
-ghost use Rattle.argot_naming.specs.Lists.{IsListOf};
-ghost use Rattle.argot_naming.specs.Agreeing.{PathBefore};
-ghost use Rattle.argot_naming.specs.Library.{AreNamed};
-ghost use Rattle.argot_packages.specs.Reads.{handed};
+ghost use Rattle.argot_names_rules.specs.Lists.{IsListOf};
+ghost use Rattle.argot_names_rules.specs.Agreeing.{PathBefore};
+ghost use Rattle.argot_names_rules.specs.Library.{AreNamed};
+ghost use Rattle.argot_names_imports.specs.Reads.{handed};
 ghost use Rattle.argot_names.specs.Paths.{library_paths};
 ghost use Rattle.argot_names.specs.Naming.{IsNamedPath};
 
 use crate::library::names;
-use argot_packages::{Survey, survey_from};
+use argot_names_imports::{Survey, survey_from};
 use argot_text::{Memory, Sources, Text, Texts};
 use argot_tree::{Lexed, Tree};
 use std::alloc::Global;

@@ -1,13 +1,13 @@
 // What is printed of a folder.
 ghost use Rattle.std.specs.Prelude.{ℕ, List};
-ghost use Rattle.argot_naming.specs.Agreeing.{Agrees, HasLibrary};
-ghost use Rattle.argot_packages.specs.Reads.{handed};
+ghost use Rattle.argot_names_rules.specs.Agreeing.{Agrees, HasLibrary};
+ghost use Rattle.argot_names_imports.specs.Reads.{handed};
 
 use crate::folder::folder_in;
 use crate::lines::{push_counts, push_lines, push_nodes};
 use crate::words::Asked;
 use argot_names::{NameFault, load};
-use argot_reading::{Folder, ReadingFault, folder_of_texts};
+use argot_names_files::{Folder, ReadingFault, folder_of_texts};
 use argot_text::{Memory, Out, Pos};
 use std::alloc::Global;
 use std::fmt::Write;

@@ -4,7 +4,7 @@
 ghost use Rattle.std.specs.Prelude.{◌<◌, IfSome, length};
 
 use crate::places::place_of;
-use argot_reading::Folder;
+use argot_names_files::Folder;
 use argot_text::{Memory, Out, Pos};
 use argot_typed::{Decl, Package, Packages, Use};
 

@@ -1,7 +1,7 @@
 // Where a node stands, by its number among those of all trees.
 ghost use Rattle.std.specs.Prelude.{◌<◌, IfSome, length};
 
-use argot_reading::Folder;
+use argot_names_files::Folder;
 use argot_text::{Pos, pos_of};
 use argot_tree::{Tree, TreeNode};
 

@@ -5,12 +5,12 @@ use Rattle.argot_tree.specs.declared.tree.TreeNode.{TreeNode}
 use Rattle.argot_tree.specs.Forests.{Forest, nodes_from}
 use Rattle.argot_tree.specs.Trees.{SpellsNodes}
 use Rattle.argot_tree.specs.Grammar.{File, Spells}
-use Rattle.argot_spelling.specs.declared.post.Post.{Post}
-use Rattle.argot_spelling.specs.Posts.{posts}
-use Rattle.argot_spelling.specs.Reading.{The, Answer}
-use Rattle.argot_spelling.specs.Reader.{read}
-use Rattle.argot_spelling.proofs.Sound.{reads_spelled}
-use Rattle.argot_spelling.proofs.Exact.Unique.{spelled_read}
+use Rattle.argot_parse_reader.specs.declared.post.Post.{Post}
+use Rattle.argot_parse_reader.specs.Posts.{posts}
+use Rattle.argot_parse_reader.specs.Reading.{The, Answer}
+use Rattle.argot_parse_reader.specs.Reader.{read}
+use Rattle.argot_parse_reader.proofs.Sound.{reads_spelled}
+use Rattle.argot_parse_reader.proofs.Exact.Unique.{spelled_read}
 use Rattle.argot_parse.specs.Parsed.{SpellsNoTree, IsSyntax, IsUnparsed}
 use Rattle.argot_grammar.specs.declared.fault.ParseFault.{ParseFault}
 use Rattle.argot_grammar.specs.declared.fault.ParseFault.TheVariants as faults

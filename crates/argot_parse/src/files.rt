@@ -1,17 +1,19 @@
 // A file: its package, its imports, its declarations and functions.
-#![tactic(auto, using(argot_spelling::proofs::Steps::read_more, argot_spelling::proofs::Steps::read_none, argot_spelling::proofs::Grows::kept))]
+#![tactic(auto, using(argot_parse_reader::proofs::Steps::read_more, argot_parse_reader::proofs::Steps::read_none, argot_parse_reader::proofs::Grows::kept))]
 
 ghost use Rattle.std.specs.Prelude.{◌≡◌, ◌<◌, ◌≤◌, ◌+◌, ◌-◌, length, IfOk, OnOk, IfSome, IfNone, Option, Some, None, vec_len, take, Bool, true, false, IsTrue};
 ghost use Rattle.argot_tree.specs.TokensAt.{kind_at};
 ghost use Rattle.argot_tree.specs.Grammar.{File, Tops, Top, MaybeTypeParams, MaybeBody};
-ghost use Rattle.argot_spelling.specs.Reading.{The, Gives, closed, put};
-ghost use Rattle.argot_spelling.specs.FileReader.{is_end, file_parts_by, func_parts_by, func_decl_by};
-ghost use Rattle.argot_spelling.specs.Reader.{read};
+ghost use Rattle.argot_parse_reader.specs.Reading.{The, Gives, closed, put};
+ghost use Rattle.argot_parse_reader.specs.FileReader.{is_end, file_parts_by, func_parts_by, func_decl_by};
+ghost use Rattle.argot_parse_reader.specs.Reader.{read};
 
 use crate::imports::imports;
 use crate::receivers::maybe_receiver;
 use argot_grammar::{block, decl, signature, type_params};
-use argot_steps::{Writer, close, is_mark, is_name, is_word, missing, put, semicolon_at, undo};
+use argot_parse_tokens::{
+    Writer, close, is_mark, is_name, is_word, missing, put, semicolon_at, undo,
+};
 use argot_text::Memory;
 use argot_tree::{Keyword, Mark, NodeKind, Token};
 

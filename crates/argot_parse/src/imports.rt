@@ -1,14 +1,14 @@
 // Imports.
-#![tactic(auto, using(argot_spelling::proofs::Steps::read_more, argot_spelling::proofs::Steps::read_none, argot_spelling::proofs::Grows::kept))]
+#![tactic(auto, using(argot_parse_reader::proofs::Steps::read_more, argot_parse_reader::proofs::Steps::read_none, argot_parse_reader::proofs::Grows::kept))]
 
 ghost use Rattle.std.specs.Prelude.{◌≡◌, ◌<◌, ◌≤◌, ◌+◌, ◌-◌, length, IfOk, OnOk, IfSome, IfNone, Option, Some, None, vec_len, take, Bool, true, false};
 ghost use Rattle.argot_tree.specs.Grammar.{Imports, Import, Specs, Spec};
-ghost use Rattle.argot_spelling.specs.Reading.{The, Gives, closed, put};
-ghost use Rattle.argot_spelling.specs.FileReader.{dot_spec_by, named_spec_by};
-ghost use Rattle.argot_spelling.specs.Reader.{read};
+ghost use Rattle.argot_parse_reader.specs.Reading.{The, Gives, closed, put};
+ghost use Rattle.argot_parse_reader.specs.FileReader.{dot_spec_by, named_spec_by};
+ghost use Rattle.argot_parse_reader.specs.Reader.{read};
 
 use argot_grammar::closed_by_paren;
-use argot_steps::{
+use argot_parse_tokens::{
     Writer, close, expect, is_mark, is_name, is_word, missing, put, semicolon_at, text_at, undo,
 };
 use argot_text::Memory;

@@ -6,8 +6,8 @@ ghost use Rattle.argot_parse.specs.Parsed.{IsSyntax, IsUnparsed};
 
 use crate::files::file;
 use argot_grammar::ParseFault;
-use argot_linking::{first_too_deep, link};
-use argot_steps::Writer;
+use argot_parse_nodes::{first_too_deep, link};
+use argot_parse_tokens::Writer;
 use argot_text::Sequence;
 use argot_tree::{Token, Tree};
 use std::alloc::Global;

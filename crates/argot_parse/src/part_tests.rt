@@ -3,8 +3,8 @@ ghost use Rattle.std.specs.Prelude.{◌<◌, ◌^◌, length};
 
 use argot_grammar::{ParseFault, Part, expression, part};
 use argot_lex::lex;
-use argot_linking::{first_too_deep, link};
-use argot_spelling::Post;
+use argot_parse_nodes::{first_too_deep, link};
+use argot_parse_reader::Post;
 use argot_tree::{Keyword, Mark, NodeKind, Token, TokenKind, Tree, TreeNode};
 use std::alloc::Global;
 use std::fmt::Write;

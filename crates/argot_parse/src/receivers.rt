@@ -1,14 +1,16 @@
 // Receivers of methods.
-#![tactic(auto, using(argot_spelling::proofs::Steps::read_more, argot_spelling::proofs::Steps::read_none, argot_spelling::proofs::Grows::kept))]
+#![tactic(auto, using(argot_parse_reader::proofs::Steps::read_more, argot_parse_reader::proofs::Steps::read_none, argot_parse_reader::proofs::Grows::kept))]
 
 ghost use Rattle.std.specs.Prelude.{◌≡◌, ◌<◌, ◌≤◌, ◌+◌, ◌-◌, length, IfOk, OnOk, IfSome, IfNone, Option, Some, None, vec_len, take, Bool, true, false};
 ghost use Rattle.argot_tree.specs.Grammar.{MaybeReceiver, Receiver};
-ghost use Rattle.argot_spelling.specs.Reading.{The, Gives, closed, put};
-ghost use Rattle.argot_spelling.specs.FileReader.{named_receiver_by, bare_receiver_by};
-ghost use Rattle.argot_spelling.specs.Reader.{read};
+ghost use Rattle.argot_parse_reader.specs.Reading.{The, Gives, closed, put};
+ghost use Rattle.argot_parse_reader.specs.FileReader.{named_receiver_by, bare_receiver_by};
+ghost use Rattle.argot_parse_reader.specs.Reader.{read};
 
 use argot_grammar::any_type;
-use argot_steps::{Writer, close, expect_list, is_mark, is_name, missing, put, type_at, undo};
+use argot_parse_tokens::{
+    Writer, close, expect_list, is_mark, is_name, missing, put, type_at, undo,
+};
 use argot_text::Memory;
 use argot_tree::{Mark, NodeKind, Token};
 

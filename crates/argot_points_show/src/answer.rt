@@ -2,8 +2,8 @@
 use crate::finding::{definitions, points, points_by_passes};
 use crate::lines::push_points;
 use argot_facts::{Loc, Points, Spot};
-use argot_notation::read_program;
 use argot_plain::Program;
+use argot_plain_text::read_program;
 use argot_points::PointsFault;
 use argot_text::{Memory, Out};
 use std::alloc::Global;

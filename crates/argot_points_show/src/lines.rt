@@ -1,5 +1,5 @@
 // The lines: `node PLACE INDEX LEAF refers to site SITE PATH`, `site SITE PATH refers to site SITE PATH`, `live FUNCTION`
-// and `target PLACE FUNCTION`, where a path is `-` or its steps with dots between them, as `argot_notation` has them.
+// and `target PLACE FUNCTION`, where a path is `-` or its steps with dots between them, as `argot_plain_text` has them.
 use argot_facts::{Loc, Points, Spot};
 use argot_text::{Memory, Out, PathStep};
 

@@ -1,4 +1,4 @@
-//! A window for maintainers: prints what `argot_points` finds of programs that are written down as `argot_notation` has them.
+//! A window for maintainers: prints what `argot_points` finds of programs that are written down as `argot_plain_text` has them.
 //!
 //! It reads the files that are named, or `program.txt`, in the folder where it runs, and prints for each a line for each
 //! reference, live function and target (`lines.rt` has their form), where there are at most ten thousand, and then how many

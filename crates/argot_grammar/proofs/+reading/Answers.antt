@@ -2,11 +2,11 @@ use Rattle.std.proofs.Common.{◌≡◌, ◌-◌, ◌+◌, ◌<◌, ◌≤◌, �
 use Rattle.std.proofs.lemmas.Grind.{common_steps}
 use Rattle.argot_tree.specs.declared.keyword.Keyword.TheVariants as words
 use Rattle.argot_tree.specs.declared.node_kind.NodeKind.TheVariants as nodes
-use Rattle.argot_spelling.specs.Reading.{Ifs, Labels, closed_all, is_word}
-use Rattle.argot_spelling.specs.StatementReader.{labels}
-use Rattle.argot_spelling.specs.Reader.{read}
-use Rattle.argot_spelling.proofs.Steps.{read_more}
-use Rattle.argot_spelling.proofs.Grows.{kept, kept_more, kept_opening, kept_condition, kept_assign, kept_simple}
+use Rattle.argot_parse_reader.specs.Reading.{Ifs, Labels, closed_all, is_word}
+use Rattle.argot_parse_reader.specs.StatementReader.{labels}
+use Rattle.argot_parse_reader.specs.Reader.{read}
+use Rattle.argot_parse_reader.proofs.Steps.{read_more}
+use Rattle.argot_parse_reader.proofs.Grows.{kept, kept_more, kept_opening, kept_condition, kept_assign, kept_simple}
 use Rattle.argot_grammar.proofs.FrontLaws.{through}
 use Rattle.argot_grammar.proofs.ChainLaws.{pushed, ifs_to, ifs_end, no_else, else_if, else_block, else_none, labels_to}
 use Rattle.argot_grammar.proofs.+reading.Goals as goal

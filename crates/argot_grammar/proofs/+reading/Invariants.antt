@@ -1,8 +1,8 @@
 use Rattle.std.proofs.Common.{◌≡◌, ◌*◌, ◌+◌, ◌≤◌, take, reverse, []}
 use Rattle.argot_tree.specs.Grammar.{Cases, Comms, DeclaredList, Eithers, Elements, Fields, Items, NamedList, Stmts, Types}
-use Rattle.argot_spelling.specs.Reading.{The, Climb, Suffixes, MoreExprs, Ifs, Labels}
-use Rattle.argot_spelling.specs.StatementReader.{label_by}
-use Rattle.argot_spelling.specs.Reader.{read}
+use Rattle.argot_parse_reader.specs.Reading.{The, Climb, Suffixes, MoreExprs, Ifs, Labels}
+use Rattle.argot_parse_reader.specs.StatementReader.{label_by}
+use Rattle.argot_parse_reader.specs.Reader.{read}
 use Rattle.argot_grammar.specs.Sorts.{sort_of}
 use Rattle.argot_grammar.proofs.+reading.Given as goal
 

@@ -1,7 +1,7 @@
 use Rattle.std.proofs.Common.{◌≡◌, take}
 use Rattle.argot_tree.specs.Grammar.{Names}
-use Rattle.argot_spelling.specs.Reading.{The}
-use Rattle.argot_spelling.specs.Reader.{read}
+use Rattle.argot_parse_reader.specs.Reading.{The}
+use Rattle.argot_parse_reader.specs.Reader.{read}
 use Rattle.argot_grammar.proofs.fields.names.Given as goal
 
 abbrev pub invariant-loop-fuel : goal.invariant-loop-fuel

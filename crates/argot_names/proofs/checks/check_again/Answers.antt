@@ -1,9 +1,9 @@
 use Rattle.std.proofs.Common.{subst}
 use Rattle.std.specs.Prelude.{IfSome, IfNone}
-use Rattle.argot_naming.specs.Handed.{IsFirst}
-use Rattle.argot_naming.specs.Faults.{IsRedeclared, IsNowhere, Again, memory}
-use Rattle.argot_packages.specs.Reads.{handed}
-use Rattle.argot_tops.specs.Places.{place_of}
+use Rattle.argot_names_rules.specs.Files.{IsFirst}
+use Rattle.argot_names_rules.specs.Faults.{IsRedeclared, IsNowhere, Again, memory}
+use Rattle.argot_names_imports.specs.Reads.{handed}
+use Rattle.argot_names_tops.specs.Places.{place_of}
 use Rattle.argot_names.proofs.Refusing.{again_refused}
 use Rattle.argot_names.proofs.checks.check_again.Goals as goal
 

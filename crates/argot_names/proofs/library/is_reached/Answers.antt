@@ -1,5 +1,5 @@
 use Rattle.std.proofs.Common.{◌≡◌, Some, None, sym, ◌∙◌, subst}
-use Rattle.argot_naming.specs.Lists.{In}
+use Rattle.argot_names_rules.specs.Lists.{In}
 use Rattle.std.specs.Prelude.{slice_get}
 use Rattle.argot_names.proofs.library.is_reached.Goals as goal
 

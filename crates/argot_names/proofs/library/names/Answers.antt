@@ -1,6 +1,6 @@
 use Rattle.std.proofs.Common.{arith, subst, inl, inr}
 use Rattle.std.proofs.lemmas.Bool.{cases_eq}
-use Rattle.argot_packages.proofs.Lists.{get_below}
+use Rattle.argot_names_imports.proofs.Lists.{get_below}
 use Rattle.argot_names.specs.Naming.{NamesAt}
 use Rattle.argot_names.proofs.library.names.Goals as goal
 

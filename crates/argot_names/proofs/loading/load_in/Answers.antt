@@ -1,4 +1,4 @@
-use Rattle.argot_packages.specs.Reads.{handed}
+use Rattle.argot_names_imports.specs.Reads.{handed}
 use Rattle.argot_names.proofs.loading.load_in.Goals as goal
 
 pub returns-in-Ok-names_of-clause-ok : goal.returns-in-Ok-names_of-clause-ok

@@ -1,5 +1,5 @@
-use Rattle.argot_naming.specs.Faults.{IsNowhere, Unknown, IsResolved}
-use Rattle.argot_packages.specs.Reads.{handed}
+use Rattle.argot_names_rules.specs.Faults.{IsNowhere, Unknown, IsResolved}
+use Rattle.argot_names_imports.specs.Reads.{handed}
 use Rattle.argot_names.proofs.Refusing.{on_ok, resolved}
 use Rattle.argot_names.proofs.loading.names_in.Goals as goal
 

@@ -1,4 +1,4 @@
-use Rattle.argot_naming.specs.Faults.{memory}
+use Rattle.argot_names_rules.specs.Faults.{memory}
 use Rattle.argot_names.proofs.loading.names_of.Goals as goal
 
 pub names_in-requires-clause-tops : goal.names_in-requires-clause-tops

@@ -1,4 +1,4 @@
-use Rattle.argot_reached.specs.Reached.{homes_of}
+use Rattle.argot_names_imports.specs.Reached.{homes_of}
 use Rattle.argot_names.proofs.loading.packages_from.Goals as goal
 
 pub returns : goal.returns

@@ -1,6 +1,6 @@
 use Rattle.std.proofs.Common.{List, ℕ, sym, subst}
-use Rattle.argot_naming.specs.Agreeing.{Agrees, HasLibrary}
-use Rattle.argot_packages.specs.Reads.{handed}
+use Rattle.argot_names_rules.specs.Agreeing.{Agrees, HasLibrary}
+use Rattle.argot_names_imports.specs.Reads.{handed}
 use Rattle.argot_names.proofs.package_tests.reach_in.Goals as goal
 
 pub reach-requires-clause-agrees : goal.reach-requires-clause-agrees

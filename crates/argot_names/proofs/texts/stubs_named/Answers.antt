@@ -1,10 +1,10 @@
 use Rattle.std.proofs.Common.{subst, sym}
 use Rattle.std.specs.Prelude.{IfSome, IfNone}
-use Rattle.argot_naming.specs.Homes.{IsFolder}
-use Rattle.argot_naming.specs.Library.{AreNamed}
-use Rattle.argot_packages.specs.Reads.{handed}
-use Rattle.argot_packages.specs.Surveyed.{IsSurvey}
-use Rattle.argot_packages.proofs.Options.{ok_map}
+use Rattle.argot_names_rules.specs.Packages.{IsFolder}
+use Rattle.argot_names_rules.specs.Library.{AreNamed}
+use Rattle.argot_names_imports.specs.Reads.{handed}
+use Rattle.argot_names_imports.specs.Surveyed.{IsSurvey}
+use Rattle.argot_names_imports.proofs.Options.{ok_map}
 use Rattle.argot_names.proofs.Named.{are_named, none_named}
 use Rattle.argot_names.proofs.texts.stubs_named.Goals as goal
 

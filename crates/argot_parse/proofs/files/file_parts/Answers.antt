@@ -1,6 +1,6 @@
 use Rattle.std.proofs.Common.{◌≡◌, take, arith}
 use Rattle.std.proofs.lemmas.Grind.{common_steps}
-use Rattle.argot_spelling.proofs.Grows.{kept}
+use Rattle.argot_parse_reader.proofs.Grows.{kept}
 use Rattle.argot_grammar.proofs.FrontLaws.{through}
 use Rattle.argot_parse.proofs.files.file_parts.Goals as goal
 

@@ -1,7 +1,7 @@
 use Rattle.std.proofs.Common.{arith}
 use Rattle.std.proofs.lemmas.Grind.{common_steps}
-use Rattle.argot_spelling.proofs.Grows.{kept}
-use Rattle.argot_spelling.proofs.FileGrows.{kept_func_parts}
+use Rattle.argot_parse_reader.proofs.Grows.{kept}
+use Rattle.argot_parse_reader.proofs.FileGrows.{kept_func_parts}
 use Rattle.argot_parse.proofs.files.func_decl.Goals as goal
 
 pub returns-in_default-2 : goal.returns-in_default-2

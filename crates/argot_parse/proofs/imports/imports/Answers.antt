@@ -1,7 +1,7 @@
 use Rattle.std.proofs.Common.{arith}
 use Rattle.std.proofs.lemmas.Grind.{common_steps}
-use Rattle.argot_spelling.proofs.Steps.{read_more}
-use Rattle.argot_spelling.proofs.Grows.{kept}
+use Rattle.argot_parse_reader.proofs.Steps.{read_more}
+use Rattle.argot_parse_reader.proofs.Grows.{kept}
 use Rattle.argot_parse.proofs.imports.imports.Goals as goal
 
 pub loop-fuel-preserved : goal.loop-fuel-preserved

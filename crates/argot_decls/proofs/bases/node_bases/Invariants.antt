@@ -1,5 +1,0 @@
-use Rattle.argot_decls.specs.Bases.{AreBasesUpTo}
-use Rattle.argot_decls.proofs.bases.node_bases.Given as goal
-
-abbrev pub invariant-loop-file : goal.invariant-loop-file
-invariant-loop-file l = AreBasesUpTo l.trees l.file l.bases.items l.count

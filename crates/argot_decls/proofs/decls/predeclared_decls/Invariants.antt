@@ -1,8 +1,0 @@
-use Rattle.std.proofs.Common.{◌≡◌, take}
-use Rattle.std.specs.Prelude.{map}
-use Rattle.argot_naming.specs.Loaded.{predeclared_decl}
-use Rattle.argot_naming.specs.Predeclared.{predeclared}
-use Rattle.argot_decls.proofs.decls.predeclared_decls.Given as goal
-
-abbrev pub invariant-loop-number : goal.invariant-loop-number
-invariant-loop-number l = l.decls.items ≡ map predeclared_decl (take l.number predeclared)

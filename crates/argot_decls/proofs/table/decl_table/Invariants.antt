@@ -1,5 +1,0 @@
-use Rattle.argot_decls.specs.Tables.{IsTableUpTo}
-use Rattle.argot_decls.proofs.table.decl_table.Given as goal
-
-abbrev pub invariant-loop-number : goal.invariant-loop-number
-invariant-loop-number l = IsTableUpTo (λ d. d.node) l.decls l.number l.count l.table.items

@@ -1,4 +1,0 @@
-use Rattle.argot_flagging.proofs.folders.put.Goals as goal
-
-pub returns : goal.returns
-returns c = λ q. c.in_ok-insert.ensures.updates.0 (record { ref_ptr = (0, 0); now = q })

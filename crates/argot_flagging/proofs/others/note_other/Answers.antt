@@ -1,9 +1,0 @@
-use Rattle.argot_flags.proofs.Exactly.{on_ok_map}
-use Rattle.argot_flagging.proofs.Othering.{other_added}
-use Rattle.argot_flagging.proofs.others.note_other.Goals as goal
-
-pub returns : goal.returns
-returns c =
-    on_ok_map c.note_go_line.result _ _
-    (other_added c.args.sources.now c.args.folders.now c.args.file c.args.path.now c.args.spots.now.keys c.note_assembly.new.spots.keys c.note_go_line.new.spots.keys c.in_ok-note_assembly.ensures)
-    c.note_go_line.ensures

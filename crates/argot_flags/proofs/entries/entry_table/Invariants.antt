@@ -1,5 +1,0 @@
-use Rattle.argot_flags.proofs.Entering.{AreKeysBelow}
-use Rattle.argot_flags.proofs.entries.entry_table.Given as goal
-
-abbrev pub invariant-loop-k : goal.invariant-loop-k
-invariant-loop-k l = AreKeysBelow l.entries l.k l.keys

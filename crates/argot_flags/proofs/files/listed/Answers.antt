@@ -1,6 +1,0 @@
-use Rattle.std.proofs.Common.{rules}
-use Rattle.argot_flags.proofs.Gathering.{ordered_items}
-use Rattle.argot_flags.proofs.files.listed.Goals as goal
-
-pub returns-clause-ordered : goal.returns-clause-ordered
-returns-clause-ordered c = ordered_items _ _ c.iter.ensures.ordered (search rules)

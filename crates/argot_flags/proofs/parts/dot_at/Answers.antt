@@ -1,5 +1,0 @@
-use Rattle.argot_flags.proofs.PartLemmas.{dot_some}
-use Rattle.argot_flags.proofs.parts.dot_at.Goals as goal
-
-pub returns-in-Dotted : goal.returns-in-Dotted
-returns-in-Dotted c = dot_some c.args.nodes.now c.args.k c.in-Some.site.at c.in-Some.site.path_at c.in-Some.site.alias c.in-Some.ensures.some c.in-Dotted.is

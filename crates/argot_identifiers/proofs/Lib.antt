@@ -1,2 +1,0 @@
-pub mod FirstLetters
-pub mod Among

@@ -1,7 +1,0 @@
-use Rattle.std.proofs.Common.{◌≡◌, ℕ, ◌<◌, Some}
-use Rattle.std.specs.Prelude.{slice_get}
-use Rattle.argot_naming.specs.Predeclared.{predeclared}
-use Rattle.argot_identifiers.proofs.predeclared.predeclared_number.Given as goal
-
-abbrev pub invariant-loop-number : goal.invariant-loop-number
-invariant-loop-number l = (k : ℕ) → k < l.number → slice_get predeclared k ≡ Some l.name → ⊥

@@ -1,9 +1,0 @@
-use Rattle.std.proofs.Common.{◌<◌, sym, ◌∙◌, arith}
-use Rattle.argot_linking.proofs.LinkLaws.{settle_stays}
-use Rattle.argot_linking.proofs.linking.settle.Goals as goal
-
--- what still waits for children stays
-pub returns : goal.returns
-returns c =
-    let positive : 0 < c.loop-linker.linker.inner.left = omega arith in
-    sym (settle_stays _ _ _ _ positive) ∙ c.loop-linker.invariant

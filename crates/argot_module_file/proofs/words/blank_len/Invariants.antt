@@ -1,6 +1,0 @@
-use Rattle.std.proofs.Common.{◌≡◌, ℕ, ◌<◌, get_or, true}
-use Rattle.argot_naming.specs.ModuleFile.{separates}
-use Rattle.argot_module_file.proofs.words.blank_len.Given as goal
-
-abbrev pub invariant-loop-i : goal.invariant-loop-i
-invariant-loop-i l = (k : ℕ) → k < l.i → separates (get_or l.text k 0) ≡ true

@@ -1,0 +1,17 @@
+pub mod Elements
+pub mod Standing
+pub mod Sites
+pub mod Named
+pub mod Written
+pub mod Keys
+pub mod Firsts
+pub mod Candidates
+pub mod Found
+pub mod Reads
+pub mod AllWritten
+pub mod Founds
+pub mod Leaders
+pub mod Graph
+pub mod Surveyed
+pub mod Reached
+pub mod Numbers

@@ -1,0 +1,13 @@
+pub mod Least
+pub mod Led
+pub mod FindingNone
+pub mod Seconds
+pub mod Mains
+pub mod MainFiles
+pub mod Cycling
+pub mod NextCycle
+pub mod FileLists
+pub mod MakingPackages
+pub mod PackagePaths
+pub mod Refusing
+pub mod ReachedPackages

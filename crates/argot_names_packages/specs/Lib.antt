@@ -1,0 +1,12 @@
+pub mod Spots
+pub mod Standing
+pub mod Missing
+pub mod Clauses
+pub mod Second
+pub mod Mains
+pub mod Ranks
+pub mod Cycles
+pub mod Paths
+pub mod Files
+pub mod Made
+pub mod Sound

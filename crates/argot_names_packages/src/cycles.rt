@@ -1,0 +1,125 @@
+// The first import on a cycle.
+ghost use Rattle.std.specs.Prelude.{◌≡◌, ◌<◌, ◌^◌, ◌+◌, List, ℕ, true, length, IfSome, IfNone, IfOk};
+ghost use Rattle.argot_names_rules.specs.Files.{SourceFiles, Place};
+ghost use Rattle.argot_names_rules.specs.Faults.{IsOnCycle};
+ghost use Rattle.argot_names_imports.specs.Surveyed.{IsSurvey};
+ghost use Rattle.argot_names_imports.specs.Graph.{IsStep, Leads, Reaches};
+ghost use Rattle.argot_names_packages.specs.Spots.{IsAt, IsLeast, IsBelow};
+ghost use Rattle.argot_names_packages.specs.Cycles.{IsStepAt, IsCycleAt};
+
+use crate::falling::all_fall;
+use crate::ranks::ranks_of;
+use crate::spot::{Spot, is_first, spot_at};
+use crate::standing::{has, reached_leader};
+use argot_links::Chains;
+use argot_names_imports::{Survey, found_at, graph_of, import_at, reach_from, target_of};
+use argot_text::Memory;
+use argot_tree::Lexed;
+use std::alloc::Global;
+
+/// An import, by the first files of the package that it stands in and of the one that it finds.
+#[derive(Clone, Copy)]
+struct Step {
+    from: u32,
+    to: u32,
+}
+
+// An import of a package that is reached, where it finds one that is there.
+fn step_at(survey: &Survey, k: usize) -> Option<Step>
+    requires imports { k < length survey.now.imports.items }
+    requires founds { k < length survey.now.founds.items }
+    ensures some { IfSome result (λ s. IsStepAt survey.now k s.from s.to) }
+    ensures none { IfNone result ((from to : ℕ) → IsStepAt survey.now k from to → ⊥) }
+{
+    let Some(to) = target_of(found_at(&survey.founds, k)) else {
+        return None;
+    };
+    match reached_leader(survey, import_at(&survey.imports, k).file) {
+        Some(from) => Some(Step { from, to }),
+        None => None,
+    }
+}
+
+// The graph leads from the one to the other.
+fn leads_back(alloc: Global, graph: &Chains, from: u32, to: u32) -> Result<bool, Memory>
+    requires small { length graph.now.lists < 2 ^ 32 }
+    requires start { from < length graph.now.lists }
+    requires below { (l t : ℕ) → Leads graph.now.lists l t → t < length graph.now.lists }
+    ensures yes { IfOk result (λ b. b ≡ true → Reaches graph.now.lists from to) }
+    ensures no { IfOk result (λ b. Reaches graph.now.lists from to → b ≡ true) }
+{
+    let reached = reach_from(alloc, graph, from)?;
+    Ok(has(&reached, to))
+}
+
+// The least place so far, or the next import's where that stands before it and is on a cycle.
+fn next_cycle(
+    alloc: Global,
+    survey: &Survey,
+    lexed: &[Lexed],
+    graph: &Chains,
+    least: Option<Spot>,
+    k: usize,
+) -> Result<Option<Spot>, Memory>
+    requires imports { k < length survey.now.imports.items }
+    requires founds { k < length survey.now.founds.items }
+    requires small { length graph.now.lists < 2 ^ 32 }
+    requires targets { (from to : ℕ) → IsStepAt survey.now k from to → to < length graph.now.lists }
+    requires below { (l t : ℕ) → Leads graph.now.lists l t → t < length graph.now.lists }
+    ensures { IsLeast (IsBelow (IsCycleAt survey.now lexed.now graph.now.lists) k) least → IfOk result (IsLeast (IsBelow (IsCycleAt survey.now lexed.now graph.now.lists) (k + 1))) }
+{
+    let Some(step) = step_at(survey, k) else {
+        return Ok(least);
+    };
+    let import = import_at(&survey.imports, k);
+    let Some(spot) = spot_at(lexed, import.file, import.at) else {
+        return Ok(least);
+    };
+    if !is_first(spot, least) {
+        return Ok(least);
+    }
+    if leads_back(alloc, graph, step.to, step.from)? {
+        Ok(Some(spot))
+    } else {
+        Ok(least)
+    }
+}
+
+// The first import on a cycle, each import tried until one is found.
+fn first_cycle(
+    alloc: Global,
+    survey: &Survey,
+    lexed: &[Lexed],
+    graph: &Chains,
+) -> Result<Option<Spot>, Memory>
+    requires as_many { length survey.now.founds.items ≡ length survey.now.imports.items }
+    requires small { length graph.now.lists < 2 ^ 32 }
+    requires targets { (k from to : ℕ) → IsStepAt survey.now k from to → to < length graph.now.lists }
+    requires below { (l t : ℕ) → Leads graph.now.lists l t → t < length graph.now.lists }
+    ensures { IfOk result (IsLeast (IsBelow (IsCycleAt survey.now lexed.now graph.now.lists) (length survey.now.imports.items))) }
+{
+    let mut least = None;
+    for k in 0..survey.imports.len() {
+        least = next_cycle(alloc, survey, lexed, graph, least, k)?;
+    }
+    Ok(least)
+}
+
+/// The first import of a package that is reached whose package leads back to the one that imports it.
+pub fn cycle(alloc: Global, survey: &Survey, lexed: &[Lexed]) -> Result<Option<Spot>, Memory>
+    requires { (h : SourceFiles) × (main : List ℕ) × IsSurvey h main survey.now }
+    ensures { (h : SourceFiles) (main : List ℕ) → h.lexed ≡ lexed.now → IsSurvey h main survey.now → IfOk result (IsLeast (IsOnCycle h main)) }
+{
+    let Some(start) = survey.reached.get_index(0).copied() else {
+        return Ok(None);
+    };
+    let Ok(count) = u32::try_from(survey.leaders.len()) else {
+        return Err(Memory);
+    };
+    let graph = graph_of(alloc, &survey.leaders, &survey.imports, &survey.founds)?;
+    let ranks = ranks_of(alloc, &graph, &survey.reached, start, count)?;
+    if all_fall(&graph, &survey.reached, &ranks, count) {
+        return Ok(None);
+    }
+    first_cycle(alloc, survey, lexed, &graph)
+}

@@ -1,0 +1,19 @@
+-- What is known before files are looked through: their trees are formed, and each has its numbers.
+use Rattle.std.specs.Prelude.{◌≡◌, ℕ, List, Some, length, slice_get}
+use Rattle.argot_tree.specs.declared.tree.Tree.{Tree}
+use Rattle.argot_names_rules.specs.Files.{SourceFiles}
+use Rattle.argot_names_imports.specs.Reads.{handed}
+use Rattle.argot_names_blocks.specs.Forms.{IsFormed}
+use Rattle.argot_names_subset_file.specs.Tables.{AreBases}
+use Rattle.argot_names_subset.specs.declared.known.Known.{Known}
+
+abbrev pub handed_of : Known → SourceFiles
+handed_of k = handed k.sources.now k.lexed.now k.trees.now
+
+abbrev pub AreFormed : List Tree → Type 0
+AreFormed trees = (file : ℕ) (tree : Tree) → slice_get trees file ≡ Some tree → IsFormed tree.nodes
+
+pub record IsKnown (k : Known) : Type 0 where
+  pub formed : AreFormed k.trees.now
+  pub as_many : length k.trees.now ≡ length k.sources.now.paths
+  pub bases : AreBases k.trees.now k.bases.now

@@ -1,0 +1,15 @@
+pub mod Results
+pub mod Before
+pub mod Noting
+pub mod Ordering
+pub mod Looking
+pub mod Gathering
+pub mod ReadFiles
+pub mod FirstPlaces
+pub mod AgainPlaces
+pub mod TopLists
+pub mod ImportLists
+pub mod Redeclaring
+pub mod FirstLetters
+pub mod Among
+pub mod Inside

@@ -1,0 +1,12 @@
+pub mod Places
+pub mod Entries
+pub mod Declaring
+pub mod Importing
+pub mod Tops
+pub mod Meant
+pub mod Collecting
+pub mod TopNames
+pub mod ImportNames
+pub mod First
+pub mod Behind
+pub mod Meanings

@@ -1,0 +1,12 @@
+pub mod Bases
+pub mod DeclTables
+pub mod Items
+pub mod Givers
+pub mod Ordered
+pub mod Packages
+pub mod Members
+pub mod Faults
+pub mod Numbers
+pub mod Known
+pub mod UseTables
+pub mod Firsts

@@ -1,6 +1,0 @@
-use Rattle.argot_package_faults.specs.Cycles.{IsCycleAt}
-use Rattle.argot_package_faults.specs.Spots.{IsLeast, IsBelow}
-use Rattle.argot_package_faults.proofs.cycles.first_cycle.Given as goal
-
-abbrev pub invariant-loop-k : goal.invariant-loop-k
-invariant-loop-k l = IsLeast (IsBelow (IsCycleAt l.survey l.lexed l.graph.lists) l.k) l.least

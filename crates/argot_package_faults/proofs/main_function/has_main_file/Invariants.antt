@@ -1,9 +1,0 @@
-use Rattle.std.proofs.Common.{ℕ, ◌<◌}
-use Rattle.argot_naming.specs.Handed.{read_of}
-use Rattle.argot_packages.specs.Reads.{handed}
-use Rattle.argot_package_faults.specs.Standing.{IsLedBy}
-use Rattle.argot_package_faults.specs.Mains.{HasMainNode}
-use Rattle.argot_package_faults.proofs.main_function.has_main_file.Given as goal
-
-abbrev pub invariant-loop-file : goal.invariant-loop-file
-invariant-loop-file l = (f : ℕ) → f < l.file → IsLedBy l.survey f l.first → HasMainNode (read_of (handed l.sources l.lexed l.trees) f) → ⊥

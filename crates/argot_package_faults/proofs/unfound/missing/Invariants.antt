@@ -1,6 +1,0 @@
-use Rattle.argot_package_faults.specs.Missing.{IsMissingAt}
-use Rattle.argot_package_faults.specs.Spots.{IsLeast, IsBelow}
-use Rattle.argot_package_faults.proofs.unfound.missing.Given as goal
-
-abbrev pub invariant-loop-k : goal.invariant-loop-k
-invariant-loop-k l = IsLeast (IsBelow (IsMissingAt l.survey l.lexed) l.k) l.least

@@ -1,6 +1,0 @@
-use Rattle.argot_packages.specs.Reads.{handed}
-use Rattle.argot_packages.proofs.AllImports.{AreImportsBelow}
-use Rattle.argot_packages.proofs.all_written.all_imports.Given as goal
-
-abbrev pub invariant-loop-file : goal.invariant-loop-file
-invariant-loop-file l = AreImportsBelow (handed l.sources l.lexed l.trees) l.file l.all.items

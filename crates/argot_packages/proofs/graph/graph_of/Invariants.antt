@@ -1,9 +1,0 @@
-use Rattle.std.proofs.Common.{◌≡◌, length}
-use Rattle.argot_packages.proofs.Graphs.{HasSteps}
-use Rattle.argot_packages.proofs.graph.graph_of.Given as goal
-
-abbrev pub invariant-loop-k : goal.invariant-loop-k
-invariant-loop-k l = record {
-  count : length l.graph.lists ≡ length l.leaders;
-  edges : HasSteps l.graph.lists l.leaders l.imports l.founds l.k;
-}

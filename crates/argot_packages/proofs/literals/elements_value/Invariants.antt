@@ -1,9 +1,0 @@
-use Rattle.std.proofs.Common.{length, ◌-◌}
-use Rattle.argot_packages.proofs.Values.{IsReadTo}
-use Rattle.argot_packages.proofs.literals.elements_value.Given as goal
-
-abbrev pub invariant-loop-at : goal.invariant-loop-at
-invariant-loop-at l = IsReadTo l.inner l.at l.out.items
-
-abbrev pub decreases-loop-at : goal.decreases-loop-at
-decreases-loop-at l = length l.inner - l.at

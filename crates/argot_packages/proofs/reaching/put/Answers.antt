@@ -1,7 +1,0 @@
-use Rattle.std.proofs.Common.{subst}
-use Rattle.argot_naming.specs.Lists.{In}
-use Rattle.argot_packages.proofs.Graphs.{in_inserted}
-use Rattle.argot_packages.proofs.reaching.put.Goals as goal
-
-pub returns-clause-only : goal.returns-clause-only
-returns-clause-only c = λ t h. in_inserted c.args.reached.now.keys c.args.node t (subst (In t) c.in_ok-insert_full.ensures.keys h)

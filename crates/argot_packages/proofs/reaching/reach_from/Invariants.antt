@@ -1,9 +1,0 @@
-use Rattle.std.proofs.Common.{◌-◌, length}
-use Rattle.argot_packages.proofs.Graphs.{IsReachedTo}
-use Rattle.argot_packages.proofs.reaching.reach_from.Given as goal
-
-abbrev pub invariant-loop-node : goal.invariant-loop-node
-invariant-loop-node l = IsReachedTo l.graph.lists l.start l.reached l.at
-
-abbrev pub decreases-loop-node : goal.decreases-loop-node
-decreases-loop-node l = length l.graph.lists - l.at

@@ -1,6 +1,0 @@
-use Rattle.std.proofs.Common.{◌≡◌, drop}
-use Rattle.argot_programs.specs.Numbers.{all_below}
-use Rattle.argot_programs.proofs.numbers.all_below.Given as goal
-
-abbrev pub invariant-loop-i : goal.invariant-loop-i
-invariant-loop-i l = all_below l.bound (drop l.i l.numbers) ≡ all_below l.bound l.numbers

@@ -1,6 +1,0 @@
-use Rattle.std.proofs.Common.{◌≡◌, drop}
-use Rattle.argot_programs.specs.Numbers.{no_number_twice}
-use Rattle.argot_programs.proofs.numbers.no_number_twice.Given as goal
-
-abbrev pub invariant-loop-i : goal.invariant-loop-i
-invariant-loop-i l = no_number_twice (drop l.i l.numbers) ≡ no_number_twice l.numbers

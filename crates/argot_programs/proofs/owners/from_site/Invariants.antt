@@ -1,6 +1,0 @@
-use Rattle.std.proofs.Common.{◌≡◌, drop}
-use Rattle.argot_programs.specs.Sites.{from_site}
-use Rattle.argot_programs.proofs.owners.from_site.Given as goal
-
-abbrev pub invariant-loop-i : goal.invariant-loop-i
-invariant-loop-i l = from_site l.place (drop l.i l.sites) ≡ from_site l.place l.sites

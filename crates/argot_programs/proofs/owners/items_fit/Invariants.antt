@@ -1,6 +1,0 @@
-use Rattle.std.proofs.Common.{◌≡◌, drop}
-use Rattle.argot_programs.specs.Sites.{items_fit}
-use Rattle.argot_programs.proofs.owners.items_fit.Given as goal
-
-abbrev pub invariant-loop-i : goal.invariant-loop-i
-invariant-loop-i l = items_fit l.f l.shape (drop l.i l.items) ≡ items_fit l.f l.shape l.items

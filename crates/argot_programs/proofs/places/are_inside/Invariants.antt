@@ -1,6 +1,0 @@
-use Rattle.std.proofs.Common.{◌≡◌, drop}
-use Rattle.argot_programs.specs.Places.{are_inside}
-use Rattle.argot_programs.proofs.places.are_inside.Given as goal
-
-abbrev pub invariant-loop-i : goal.invariant-loop-i
-invariant-loop-i l = are_inside l.f (drop l.i l.places) ≡ are_inside l.f l.places

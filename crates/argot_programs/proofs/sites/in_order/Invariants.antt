@@ -1,6 +1,0 @@
-use Rattle.std.proofs.Common.{◌≡◌, drop}
-use Rattle.argot_programs.specs.Sites.{in_order}
-use Rattle.argot_programs.proofs.sites.in_order.Given as goal
-
-abbrev pub invariant-loop-i : goal.invariant-loop-i
-invariant-loop-i l = in_order (drop l.i l.sites) ≡ in_order l.sites

@@ -1,9 +1,0 @@
-use Rattle.argot_packages.proofs.Options.{ok_map}
-use Rattle.argot_reaching.specs.Paths.{stubs_of}
-use Rattle.argot_reaching.proofs.PackagePaths.{below_stubs, map_some}
-use Rattle.argot_reaching.proofs.paths.folder_path.Goals as goal
-
-pub returns-in-Some : goal.returns-in-Some
-returns-in-Some c =
-    ok_map c.from_str.result _ _
-    (λ t e. below_stubs c.args.module.now c.args.folder.now c.in-Some.path.now t (map_some c.stub_path.result c.in-Some.path (stubs_of c.args.folder.now) c.stub_path.ensures c.in-Some.is) e) c.from_str.ensures

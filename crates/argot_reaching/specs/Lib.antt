@@ -1,4 +1,0 @@
-pub mod Paths
-pub mod Files
-pub mod Made
-pub mod Sound

@@ -1,7 +1,0 @@
-use Rattle.std.proofs.Common.{◌≡◌}
-use Rattle.std.specs.Prelude.{filter, take}
-use Rattle.argot_naming.specs.Agreeing.{is_assembly}
-use Rattle.argot_reading.proofs.sources.assembly_of.Given as goal
-
-abbrev pub invariant-loop-k : goal.invariant-loop-k
-invariant-loop-k l = l.assembly ≡ filter is_assembly (take l.k l.paths)

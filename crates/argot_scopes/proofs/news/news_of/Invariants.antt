@@ -1,5 +1,0 @@
-use Rattle.argot_scopes.specs.News.{AreNewsUpTo}
-use Rattle.argot_scopes.proofs.news.news_of.Given as goal
-
-abbrev pub invariant-loop-k : goal.invariant-loop-k
-invariant-loop-k l = AreNewsUpTo l.bytes l.tokens l.brought l.k l.news.items

@@ -1,5 +1,0 @@
-use Rattle.argot_scopes.specs.Shapes.{AreShapes}
-use Rattle.argot_scopes.proofs.shapes.shapes_of.Given as goal
-
-abbrev pub invariant-loop-k : goal.invariant-loop-k
-invariant-loop-k l = AreShapes l.bytes l.tokens l.brought l.k l.shapes.items

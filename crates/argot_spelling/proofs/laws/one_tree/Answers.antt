@@ -1,5 +1,0 @@
-use Rattle.argot_spelling.proofs.Exact.Unique.{one_tree}
-use Rattle.argot_spelling.proofs.laws.one_tree.Goals as goal
-
-pub returns : goal.returns
-returns c = one_tree

@@ -1,5 +1,0 @@
-use Rattle.argot_spelling.proofs.Far.Alone.{read_none}
-use Rattle.argot_spelling.proofs.laws.read_none.Goals as goal
-
-pub returns : goal.returns
-returns c = read_none

@@ -1,5 +1,0 @@
-use Rattle.argot_spelling.proofs.Far.Alone.{spelled_reached}
-use Rattle.argot_spelling.proofs.laws.spelled_reached.Goals as goal
-
-pub returns : goal.returns
-returns c = spelled_reached

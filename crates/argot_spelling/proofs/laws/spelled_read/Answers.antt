@@ -1,5 +1,0 @@
-use Rattle.argot_spelling.proofs.Exact.Unique.{spelled_read}
-use Rattle.argot_spelling.proofs.laws.spelled_read.Goals as goal
-
-pub returns : goal.returns
-returns c = spelled_read

@@ -1,4 +1,0 @@
-pub mod Numbers
-pub mod Known
-pub mod Tables
-pub mod Firsts

@@ -1,9 +1,0 @@
-use Rattle.std.proofs.Common.{List, length}
-use Rattle.argot_tops.specs.declared.named.Named.{Named}
-use Rattle.argot_tops.specs.Entries.{AreEntries}
-use Rattle.argot_tops.specs.First.{NamesFirst}
-use Rattle.argot_tops.specs.Behind.{IsBehindBelow}
-use Rattle.argot_tops.proofs.behind.first_behind.Given as goal
-
-abbrev pub invariant-loop-k : goal.invariant-loop-k
-invariant-loop-k l = (others : List Named) → AreEntries others (length others) l.entries → NamesFirst (IsBehindBelow l.items others l.k) l.first

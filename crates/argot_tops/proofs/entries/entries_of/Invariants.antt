@@ -1,5 +1,0 @@
-use Rattle.argot_tops.specs.Entries.{AreEntries}
-use Rattle.argot_tops.proofs.entries.entries_of.Given as goal
-
-abbrev pub invariant-loop-k : goal.invariant-loop-k
-invariant-loop-k l = AreEntries l.items l.k l.entries

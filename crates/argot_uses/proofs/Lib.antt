@@ -1,4 +1,0 @@
-pub mod OfPackages
-pub mod Membership
-pub mod Faulty
-pub mod FirstUnresolved

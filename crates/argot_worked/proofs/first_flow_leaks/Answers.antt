@@ -1,5 +1,0 @@
-use Rattle.argot_worked.proofs.Leaking.{it_leaks}
-use Rattle.argot_worked.proofs.first_flow_leaks.Goals as goal
-
-pub returns : goal.returns
-returns c = it_leaks
