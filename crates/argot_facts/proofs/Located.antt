@@ -1,8 +1,8 @@
 -- The locations that are listed are those of the program, each once.
-use Rattle.std.proofs.Common.{◌≡◌, ℕ, zero, suc, ◌+◌, ◌<◌, ◌≤◌, Bool, true, false, cond, List, [], ◌∷◌, ◌++◌, Some, None, Option, map, refl, sym, ap, ◌∙◌, inl, inr, arith, subst, eqb-true, eq-eqb}
-use Rattle.std.specs.Prelude.{◌⊎◌, slice_get, length, ◌==◌, ◌&&◌, ◌||◌, if◌then◌else◌}
+use Rattle.std.proofs.Common.{◌≡◌, ℕ, zero, suc, ◌+◌, true, List, [], ◌∷◌, ◌++◌, Some, map, refl, sym, ap, ◌∙◌, inl, inr, arith, subst, eqb-true, eq-eqb}
+use Rattle.std.specs.Prelude.{◌⊎◌, slice_get, ◌||◌, if◌then◌else◌}
 use Rattle.std.proofs.lemmas.Bool.{cases_Bool, and_parts, and_from, or_cases, or_left, or_right, both_ways}
-use Rattle.std.proofs.lemmas.List.{append_assoc, append-nil}
+use Rattle.std.proofs.lemmas.List.{append_assoc}
 use Rattle.argot_plain.specs.Lists.{In, here, there, IsDistinct, same_step, same_path, has_path, begins_with, leads_on}
 use Rattle.argot_plain.specs.Code.{Code}
 use Rattle.argot_plain.specs.Machine.{is_path_of, shape_of}
@@ -12,7 +12,7 @@ use Rattle.argot_text.specs.declared.path.PathStep.TheVariants.{Field, Element, 
 use Rattle.argot_facts.specs.Exact.{IsLocation, AreLocations}
 use Rattle.argot_facts.specs.Numbers.{location, with_path, with_prefixes, with_leaves, paths_of, locations_from, locations_of}
 use Rattle.argot_facts.specs.declared.pointing.Loc.{Loc}
-use Rattle.argot_facts.proofs.Listed.{In-append, In-left, In-right, In-mapped, In-map, in_of_get, number_of, get-append, get-map, get_within, get_at}
+use Rattle.argot_facts.proofs.Listed.{In-append, In-left, In-right, In-mapped, In-map, in_of_get, get-append, get-map, get_within, get_at}
 
 same_step_is : (s t : PathStep) → same_step s t ≡ true → s ≡ t
 same_step_is (Field a) (Field b) h = ap Field (eqb-true a b h)

@@ -1,9 +1,9 @@
 -- A node of the list is a node of the program, and each of these stands in the list.
-use Rattle.std.proofs.Common.{◌≡◌, ℕ, zero, suc, ◌+◌, ◌-◌, ◌<◌, ◌≤◌, Bool, true, false, cond, List, [], ◌∷◌, ◌++◌, Some, None, Option, map, take, drop, refl, sym, ap, ◌∙◌, inl, inr, arith, subst, eqb-true, eq-eqb}
+use Rattle.std.proofs.Common.{◌≡◌, ℕ, zero, suc, ◌+◌, ◌-◌, ◌<◌, ◌≤◌, Bool, List, [], ◌∷◌, Some, None, Option, take, drop, refl, sym, ap, ◌∙◌, inl, inr, arith, subst, eqb-true, eq-eqb}
 use Rattle.std.specs.Prelude.{◌⊎◌, slice_get, length, ◌==◌, if◌then◌else◌}
-use Rattle.std.proofs.lemmas.Bool.{cases_eq, cases_lt, cases_Bool, false_from_ne_true}
-use Rattle.argot_plain.specs.Lists.{In, here, there}
-use Rattle.argot_plain.specs.Code.{Code, IsAt, IsFunction, IsIn, IsEntry, IsSiteOf, kind_of, leaves, leaves_in, element_leaves, node_registers}
+use Rattle.std.proofs.lemmas.Bool.{cases_eq, cases_Bool, false_from_ne_true}
+use Rattle.argot_plain.specs.Lists.{In}
+use Rattle.argot_plain.specs.Code.{Code, IsAt, IsFunction, IsIn, IsSiteOf, kind_of, leaves, leaves_in, element_leaves, node_registers}
 use Rattle.argot_plain.specs.Nodes.{Mark, mark, HasLeaf, of_kind, of_items, of_elements, of_entry}
 use Rattle.argot_plain.specs.WellFormed.{WellFormed}
 use Rattle.argot_plain.specs.declared.functions.Function.{Function}
@@ -14,7 +14,7 @@ use Rattle.argot_plain.specs.declared.sites.Site.{Site}
 use Rattle.argot_text.specs.declared.path.PathStep.{PathStep}
 use Rattle.argot_facts.specs.Numbers.{leaves_of, own_site, first_site, elements_at, kind_leaves, place_leaves}
 use Rattle.argot_facts.specs.Graphs.{IsMarked, AreNodes}
-use Rattle.argot_facts.specs.Numbers.{node, index_nodes, nodes_of}
+use Rattle.argot_facts.specs.Numbers.{node, nodes_of}
 use Rattle.argot_facts.specs.declared.nodes.Node.{Node}
 use Rattle.argot_facts.proofs.Placed.{index_found, index_listed, place_found, place_listed, function_found, function_listed, nodes_sorted, one_function, place_in}
 use Rattle.argot_facts.proofs.Listed.{get_within, get_at, get-map, map-get, get-take, take-get, get-drop}

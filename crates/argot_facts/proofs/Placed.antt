@@ -1,20 +1,16 @@
 -- The nodes that are listed are the nodes of the program.
-use Rattle.std.proofs.Common.{◌≡◌, ℕ, zero, suc, ◌+◌, ◌-◌, ◌<◌, ◌≤◌, Bool, true, false, cond, List, [], ◌∷◌, ◌++◌, Some, None, Option, map, take, drop, refl, sym, ap, ◌∙◌, inl, inr, arith, subst, eqb-true, eq-eqb}
-use Rattle.std.specs.Prelude.{◌⊎◌, slice_get, length, ◌==◌, if◌then◌else◌}
-use Rattle.std.proofs.lemmas.Bool.{cases_eq, cases_lt, cases_Bool, false_from_ne_true}
+use Rattle.std.proofs.Common.{◌≡◌, ℕ, zero, suc, ◌+◌, ◌-◌, ◌<◌, ◌≤◌, List, [], ◌∷◌, Some, refl, sym, ap, ◌∙◌, inl, inr, arith, subst}
+use Rattle.std.specs.Prelude.{slice_get, length}
+use Rattle.std.proofs.lemmas.Bool.{cases_eq, cases_lt}
 use Rattle.argot_plain.specs.Lists.{In, here, there}
-use Rattle.argot_plain.specs.Code.{Code, IsAt, IsFunction, IsIn, IsEntry, IsSiteOf, kind_of, leaves, element_leaves, node_registers}
-use Rattle.argot_plain.specs.Nodes.{Mark, mark, HasLeaf, of_kind, of_items, of_elements, of_entry}
-use Rattle.argot_plain.specs.WellFormed.{WellFormed, HasRanges}
+use Rattle.argot_plain.specs.Code.{Code, IsFunction, IsIn}
+use Rattle.argot_plain.specs.WellFormed.{HasRanges}
 use Rattle.argot_plain.specs.declared.functions.Function.{Function}
-use Rattle.argot_plain.specs.declared.instructions.Kind.{Kind}
-use Rattle.argot_plain.specs.declared.instructions.Kind.TheVariants.{Op, Move, Join, New, Step, Read, Write, Grow, Global, Assert, Call, Go, Defer, RunDefers, Leave, Goto, Branch, Panic, Passed}
-use Rattle.argot_plain.specs.declared.sites.Site.{Site}
 use Rattle.argot_text.specs.declared.path.PathStep.{PathStep}
 use Rattle.argot_facts.specs.Graphs.{IsBefore, by_place, by_index, by_leaf}
-use Rattle.argot_facts.specs.Numbers.{node, leaves_of, own_site, first_site, elements_at, kind_leaves, place_leaves, leaf_nodes, index_nodes, place_nodes, function_nodes, nodes_of}
+use Rattle.argot_facts.specs.Numbers.{node, place_leaves, leaf_nodes, index_nodes, place_nodes, function_nodes, nodes_of}
 use Rattle.argot_facts.specs.declared.nodes.Node.{Node}
-use Rattle.argot_facts.proofs.Listed.{In-append, In-left, In-right, in_of_get, get_within, get_at, Sorted, sorted_append, sorted_cons}
+use Rattle.argot_facts.proofs.Listed.{In-append, In-left, In-right, get_within, get_at, Sorted, sorted_append, sorted_cons}
 
 -- nodes by leaf
 leaf_found : (i k a n : ℕ) (x : Node) → In x (leaf_nodes i k a n) → (b : ℕ) × (b < n) × (x ≡ node i k (a + b))

@@ -1,5 +1,5 @@
 -- What it means that lists hold exactly the relations: the definitions that reach places, the locations, and what is pointed to.
-use Rattle.std.specs.Prelude.{◌≡◌, ◌↔◌, ℕ, ◌<◌, Bool, true, List, length}
+use Rattle.std.specs.Prelude.{◌≡◌, ◌↔◌, ℕ, ◌<◌, true, List, length}
 use Rattle.argot_plain.specs.Lists.{In, IsDistinct}
 use Rattle.argot_plain.specs.Code.{Code}
 use Rattle.argot_plain.specs.Machine.{is_path_of}

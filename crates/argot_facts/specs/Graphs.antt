@@ -4,7 +4,9 @@ use Rattle.argot_plain.specs.Code.{Code}
 use Rattle.argot_plain.specs.Lists.{In}
 use Rattle.argot_plain.specs.Nodes.{Mark, HasLeaf}
 use Rattle.argot_plain.specs.declared.problems.Problem.{Problem}
-use Rattle.argot_facts.specs.Edges.{Moves}
+use Rattle.argot_facts.specs.Edges.{MovesBy}
+use Rattle.argot_facts.specs.Reaching.{DefinedAt}
+use Rattle.argot_facts.specs.Refers.{Fact, Holds}
 use Rattle.argot_facts.specs.declared.graphs.Edge.{Edge}
 use Rattle.argot_facts.specs.declared.graphs.EdgeKind.{EdgeKind}
 use Rattle.argot_facts.specs.declared.graphs.EdgeKind.TheVariants.{Plain, Call, Return, Reset}
@@ -54,13 +56,16 @@ pub record IsMarked (p : Code) (a : Node) (m : Mark) : Type 0 where
   pub index : a.index ≡ m.index
   pub has : HasLeaf p m.place m.index a.leaf m.leaf
 
--- an edge between nodes
-pub record IsEdge (p : Code) (pr : Problem) (a : Node) (kind : EdgeKind) (b : Node) : Type 0 where
+-- by these definitions and facts an edge between nodes
+pub record IsEdgeBy (p : Code) (D : ℕ → ℕ → ℕ → ℕ → Type 0) (F : Fact → Type 0) (pr : Problem) (a : Node) (kind : EdgeKind) (b : Node) : Type 0 where
   pub from : Mark
   pub to : Mark
   pub is_from : IsMarked p a from
   pub is_to : IsMarked p b to
-  pub moves : Moves p pr from kind to
+  pub moves : MovesBy p D F pr from kind to
+
+abbrev pub IsEdge : Code → Problem → Node → EdgeKind → Node → Type 0
+IsEdge p = IsEdgeBy p (DefinedAt p) (Holds p)
 
 -- exactly the nodes of the program, in node order; a node's number is its place in this list
 pub record AreNodes (p : Code) (ns : List Node) : Type 0 where
@@ -68,17 +73,23 @@ pub record AreNodes (p : Code) (ns : List Node) : Type 0 where
   pub each : (a : Node) → In a ns ↔ ((m : Mark) × IsMarked p a m)
 
 -- an edge between numbers of nodes
-pub record IsNumbered (p : Code) (pr : Problem) (ns : List Node) (a : ℕ) (kind : EdgeKind) (b : ℕ) : Type 0 where
+pub record IsNumberedBy (p : Code) (D : ℕ → ℕ → ℕ → ℕ → Type 0) (F : Fact → Type 0) (pr : Problem) (ns : List Node) (a : ℕ) (kind : EdgeKind) (b : ℕ) : Type 0 where
   pub from : Node
   pub to : Node
   pub is_from : slice_get ns a ≡ Some from
   pub is_to : slice_get ns b ≡ Some to
-  pub edge : IsEdge p pr from kind to
+  pub edge : IsEdgeBy p D F pr from kind to
+
+abbrev pub IsNumbered : Code → Problem → List Node → ℕ → EdgeKind → ℕ → Type 0
+IsNumbered p = IsNumberedBy p (DefinedAt p) (Holds p)
 
 -- exactly the edges of the problem
-pub record IsGraphOf (p : Code) (pr : Problem) (d : Drawn) : Type 0 where
+pub record IsGraphBy (p : Code) (D : ℕ → ℕ → ℕ → ℕ → Type 0) (F : Fact → Type 0) (pr : Problem) (d : Drawn) : Type 0 where
   pub nodes : AreNodes p d.nodes
-  pub each : (e : Edge) → In e d.edges ↔ IsNumbered p pr d.nodes e.from e.kind e.to
+  pub each : (e : Edge) → In e d.edges ↔ IsNumberedBy p D F pr d.nodes e.from e.kind e.to
+
+abbrev pub IsGraphOf : Code → Problem → Drawn → Type 0
+IsGraphOf p = IsGraphBy p (DefinedAt p) (Holds p)
 
 -- the kind of an edge that is turned round
 abbrev pub turned_kind : EdgeKind → EdgeKind

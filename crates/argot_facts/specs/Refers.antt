@@ -73,8 +73,12 @@ pub data Holds (p : Code) : Fact → Type 0 where
   fresh_result : {i k s : ℕ} {q : List PathStep} → (h g t : ℕ) → (takes flows : Bool) → (to args : List ℕ) → (callee : Callee) → (fn : Function) → IsIn p i h → IsAt p i (Call to callee args) → Holds p (Targets i g takes)
       → IsFunction p g fn → fn.external ≡ Some flows → slice_get to k ≡ Some t → IsResultSite p h i k t q s → Holds p (NodeRefers (mark i k q) (loc s []))
 
--- the place i is one of a live function
-pub record IsLivePlace (p : Code) (i : ℕ) : Type 0 where
+-- the place i is one of a function that these facts have as live
+pub record IsLivePlaceIn (p : Code) (F : Fact → Type 0) (i : ℕ) : Type 0 where
   pub function : ℕ
   pub is_in : IsIn p i function
-  pub is_live : Holds p (IsLive function)
+  pub is_live : F (IsLive function)
+
+-- the place i is one of a live function
+abbrev pub IsLivePlace : Code → ℕ → Type 0
+IsLivePlace p = IsLivePlaceIn p (Holds p)

@@ -9,7 +9,7 @@ use Rattle.argot_plain.specs.Nodes.{Mark}
 use Rattle.argot_plain.specs.declared.instructions.Kind.{Kind}
 use Rattle.argot_plain.specs.declared.instructions.Kind.TheVariants.{Call, Go, Defer}
 use Rattle.argot_facts.specs.Escapes.{Escapes}
-use Rattle.argot_facts.specs.Follows.{Follows, Pair, Uses}
+use Rattle.argot_facts.specs.Follows.{Follows, DirectlyFollows, Uses}
 use Rattle.argot_facts.specs.Follows as Order
 use Rattle.argot_sound.specs.Effects.{Effect, put, store, enter, enter_record, start, keep, leave, leave_record, leave_last, move, unwind, unwind_drop, Stores}
 use Rattle.argot_sound.specs.Laws as Laws
@@ -21,8 +21,8 @@ use Rattle.argot_sound.proofs.Points.{live_place, targets_of}
 
 module _ (p : Code) (wf : WellFormed p) (l : Labelling) (g : ℕ) where
   -- where a pair leads to one of two equal places
-  pair_at : (a a' b b' : ℕ) → a ≡ a' → b ≡ b' → Pair p a' b' → Pair p a b
-  pair_at a a' b b' ea eb h = subst (λ x. Pair p x b) (sym ea) (subst (λ x. Pair p a' x) (sym eb) h)
+  pair_at : (a a' b b' : ℕ) → a ≡ a' → b ≡ b' → DirectlyFollows p a' b' → DirectlyFollows p a b
+  pair_at a a' b b' ea eb h = subst (λ x. DirectlyFollows p x b) (sym ea) (subst (λ x. DirectlyFollows p a' x) (sym eb) h)
 
   -- the frame below calls or defers the one on top
   uses : (f e : Frame) → IsIn p e.place e.function → IsCalledAt p f e → (i : ℕ) × Uses p i e.function f.function
@@ -80,7 +80,7 @@ module _ (p : Code) (wf : WellFormed p) (l : Labelling) (g : ℕ) where
   ]
 
   new_ordered : (gs : List (List Frame)) (f h : Frame) (rest : List Frame) (ss : List Slot) (kind : Kind) (x : Slot) → IsAt p f.place kind → Stores p l kind g ss f x → slice_get gs g ≡ Some (f ∷ rest)
-      → Pair p f.place h.place → (started : List (List Frame)) → Escapes p x.object.site ⊎ (x.object.maker ≡ g) → IsOrdered p (slice_set gs g (h ∷ rest) ++ started) x
+      → DirectlyFollows p f.place h.place → (started : List (List Frame)) → Escapes p x.object.site ⊎ (x.object.maker ≡ g) → IsOrdered p (slice_set gs g (h ∷ rest) ++ started) x
   new_ordered gs f h rest ss kind x is st get onward started (inl a) = inl a
   new_ordered gs f h rest ss kind x is st get onward started (inr b) =
       inr (
