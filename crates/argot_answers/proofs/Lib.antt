@@ -1,0 +1,5 @@
+pub mod Exactly
+pub mod Least
+pub mod Adds
+pub mod Tests
+pub mod Walks
