@@ -1,6 +1,6 @@
 -- A program of plain code as contracts see it: its places, and what its instructions define, read, hand on and go on to.
 use Rattle.std.specs.Prelude.{◌≡◌, ℕ, ◌+◌, ◌<◌, ◌≤◌, ◌==◌, ◌++◌, Bool, true, false, Option, List, [], ◌∷◌, Some, None, map, nat_lt, slice_get, length, if◌then◌else◌}
-use Rattle.argot_plain.specs.Lists.{without_first}
+use Rattle.argot_plain.specs.Lists.{In, without_first}
 use Rattle.argot_plain.specs.declared.functions.Function.{Function}
 use Rattle.argot_plain.specs.declared.functions.Ident.{Ident}
 use Rattle.argot_plain.specs.declared.instructions.Callee.{Callee}
@@ -96,6 +96,30 @@ abbrev pub handed_values : Callee → List ℕ → List ℕ
 handed_values (Static g) args = args
 handed_values (Value r) args = args ++ r ∷ []
 handed_values (Method r name) args = r ∷ args
+
+-- the index of the handed value by which the callee is found: the reference by which a function value is called, the box
+-- by which a method is
+abbrev pub found_by : Callee → List ℕ → Option ℕ
+found_by (Static g) args = None
+found_by (Value r) args = Some (length args)
+found_by (Method r name) args = Some 0
+
+-- an object of the site s selects the function g for such a callee: it stands for g, or g is the wrapper of its type under
+-- the method's name
+pub data Selects (p : Code) (s g : ℕ) : Callee → Type 0 where
+  by_value : {r : ℕ} → (site : Site)
+      → slice_get p.sites s ≡ Some site
+      → site.function ≡ Some g
+      → Selects p s g (Value r)
+  by_method : {r : ℕ} {name : List ℕ} → (site : Site)
+      → slice_get p.sites s ≡ Some site
+      → In (site.dynamic, name, g) p.methods
+      → Selects p s g (Method r name)
+
+-- where the handed value k refers to an object of the site s, it goes on to the function g: to any function, but where the
+-- callee is found by this value to what the object selects
+abbrev pub GoesTo : Code → Callee → List ℕ → ℕ → ℕ → ℕ → Type 0
+GoesTo p callee args k s g = found_by callee args ≡ Some k → Selects p s g callee
 
 -- a Call, Go or Defer with its callee, its written arguments and how many results stand before the handed values
 pub data Hands : Kind → Callee → List ℕ → ℕ → Type 0 where

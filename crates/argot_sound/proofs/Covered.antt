@@ -6,14 +6,16 @@ use Rattle.argot_plain.specs.WellFormed.{WellFormed}
 use Rattle.argot_plain.specs.Machine.{Labelling, Cell, Slot, Found, Deferred, Frame, View}
 use Rattle.argot_plain.specs.Nodes.{mark}
 use Rattle.argot_plain.specs.Outside.{Resolves}
+use Rattle.argot_plain.specs.Step.{handing}
 use Rattle.argot_plain.specs.declared.functions.Function.{Function}
 use Rattle.argot_plain.specs.declared.instructions.Callee.{Callee}
 use Rattle.argot_plain.specs.declared.instructions.Kind.TheVariants.{Call, Go, Defer, RunDefers}
 use Rattle.argot_facts.specs.Refers.{Holds, IsLive, Targets, target_is_live}
 use Rattle.argot_sound.specs.Effects.{Effect, put, store, enter, enter_record, start, keep, leave, leave_record, leave_last, move, unwind, unwind_drop, IsSame, IsSameFrame, Begins, IsPanicking, HandsOn}
 use Rattle.argot_sound.specs.Laws as Laws
-use Rattle.argot_sound.specs.Laws.{EachFrame, FrameDefined, FrameOwned, FrameCovered, IsCalledAt, IsCalledFrom, RecordCovered}
+use Rattle.argot_sound.specs.Laws.{EachFrame, FrameSingle, AllGo, FrameDefined, FrameOwned, FrameCovered, IsCalledAt, IsCalledFrom, RecordCovered}
 use Rattle.argot_sound.proofs.Points.{targets_of}
+use Rattle.argot_sound.proofs.Single.{goes_to_chosen}
 
 module _ (p : Code) (wf : WellFormed p) where
   same_function : (g : ℕ) (a b : Function) → IsFunction p g a → IsFunction p g b → a ≡ b
@@ -90,44 +92,46 @@ module _ (p : Code) (wf : WellFormed p) where
       let x = sym below ∙ subst (λ i. IsAt p i RunDefers) (sym at) (wf.runs_at_exit.stands e.function fn isf (v.body fn isf)) in absurd cc
 
   module _ (l : Labelling) (g : ℕ) where
-    kept_record : (f : Frame) (rest : List Frame) (ss : List Slot) (callee : Callee) (args : List ℕ) (d : Deferred) → FrameDefined p f rest → FrameOwned p g f rest → f.panics ≡ false → IsAt p f.place (Defer callee args) → Resolves p f.cells callee d.target → d.place ≡ f.place → d.count ≡ length (arguments callee args)
+    kept_record : (f : Frame) (rest : List Frame) (ss : List Slot) (callee : Callee) (args : List ℕ) (d : Deferred) → FrameSingle f rest → FrameDefined p f rest → FrameOwned p g f rest → f.panics ≡ false → IsAt p f.place (Defer callee args) → Resolves p f.cells callee d.target → d.place ≡ f.place → d.count ≡ length (arguments callee args) → d.cells ≡ handing p l f 0 callee args
         → ((c : Cell) → In c d.cells → HandsOn p l (Defer callee args) g ss f 0 c) → FrameCovered p f rest → (x : Deferred) → In x (d ∷ f.records) → RecordCovered p f.function x
-    kept_record f rest ss callee args d df w calm at is place count hands v x (here e) = subst (RecordCovered p f.function) (sym e) (record {
+    kept_record f rest ss callee args d u df w calm at is place count all hands v x (here e) = subst (RecordCovered p f.function) (sym e) (record {
       place = subst (λ n. IsIn p n f.function) (sym place) v.place;
       args = args;
       callee = callee;
       is = subst (λ n. IsAt p n (Defer callee args)) (sym place) at;
       targets = λ h takes t. subst (λ n. Holds p (Targets n h takes)) (sym place) (targets_of p wf g f rest (Defer callee args) callee args 0 h takes df v w calm at by_defer (subst (Resolves p f.cells callee) t is));
+      chosen = λ h takes t. subst (λ cells. AllGo p callee args cells h) (sym all)
+          (goes_to_chosen p wf l f rest (Defer callee args) callee args 0 h takes u v.place at by_defer (subst (Resolves p f.cells callee) t is));
       count = count;
       each = λ c m. (let z : 0 + c.register ≡ c.register = omega arith in (hands c m).given.put ∙ ap (λ k. mark f.place k c.leaf) z ∙ ap (λ i. mark i c.register c.leaf) (sym place));
     })
-    kept_record f rest ss callee args d df w calm at is place count hands v x (there m) = v.records x m
+    kept_record f rest ss callee args d u df w calm at is place count all hands v x (there m) = v.records x m
 
     -- each step keeps it
-    pub keeps_covered : {old new : View} {started : List (List Frame)} → Effect p l g old new started → EachFrame (FrameDefined p) old.frames → EachFrame (FrameOwned p g) old.frames → EachFrame (FrameCovered p) old.frames → EachFrame (FrameCovered p) new.frames
-    keeps_covered (put {f = f} {h = h} {rest = rest} kind at calm onward same cells) d w v = (covered_on f h rest same (successor kind at onward) v.0, v.1)
-    keeps_covered (store {f = f} {h = h} {rest = rest} kind at calm onward same cells slots) d w v = (covered_on f h rest same (successor kind at onward) v.0, v.1)
-    keeps_covered (enter {f = f} {h = h} {rest = rest} to args callee takes fn at calm is b hands cells) d w v =
+    pub keeps_covered : {old new : View} {started : List (List Frame)} → Effect p l g old new started → EachFrame FrameSingle old.frames → EachFrame (FrameDefined p) old.frames → EachFrame (FrameOwned p g) old.frames → EachFrame (FrameCovered p) old.frames → EachFrame (FrameCovered p) new.frames
+    keeps_covered (put {f = f} {h = h} {rest = rest} kind at calm onward same cells) u d w v = (covered_on f h rest same (successor kind at onward) v.0, v.1)
+    keeps_covered (store {f = f} {h = h} {rest = rest} kind at calm onward same cells slots) u d w v = (covered_on f h rest same (successor kind at onward) v.0, v.1)
+    keeps_covered (enter {f = f} {h = h} {rest = rest} to args callee takes fn at calm is b hands cells) u d w v =
         let targets = targets_of p wf g f rest (Call to callee args) callee args (length to) h.function takes d.0 v.0 w.0 calm at by_call is in
         (begins_covered h fn f.place f.place takes (f ∷ rest) b targets (Laws.by_call to args callee takes b.site_is calm at targets), v)
-    keeps_covered (enter_record {f = f} {f' = f'} {h = h} {rest = rest} y takes fn at same place cells records target b again) d w v =
+    keeps_covered (enter_record {f = f} {f' = f'} {h = h} {rest = rest} y takes fn at same place cells records target b again) u d w v =
         let rc = v.0.records y (subst (In y) (sym records) (here refl)) in (
           covered_record f f' h rest y takes fn at same place target b v.0 rc,
           (covered_at f f' rest same.function same.site (subst (λ n. IsIn p n f.function) (sym place) v.0.place) (λ x m. v.0.records x (subst (In x) (sym records) (there m))) v.0, v.1),
         )
-    keeps_covered (start {f = f} {f' = f'} {h = h} {rest = rest} args callee takes fn at calm is onward same cells b hands again) d w v = (covered_on f f' rest same (successor (Go callee args) at onward) v.0, v.1)
-    keeps_covered (keep {ss = ss} {f = f} {h = h} {rest = rest} args callee y at calm is onward same cells records place count hands) d w v = (
+    keeps_covered (start {f = f} {f' = f'} {h = h} {rest = rest} args callee takes fn at calm is onward same cells b hands again) u d w v = (covered_on f f' rest same (successor (Go callee args) at onward) v.0, v.1)
+    keeps_covered (keep {ss = ss} {f = f} {h = h} {rest = rest} args callee y at calm is onward same cells records place count all hands) u d w v = (
       covered_at f h rest same.function same.site (wf.stays f.place h.place f.function (successor (Defer callee args) at onward) v.0.place)
-          (λ x m. kept_record f rest ss callee args y d.0 w.0 calm at is place count hands v.0 x (subst (In x) records m)) v.0,
+          (λ x m. kept_record f rest ss callee args y u.0 d.0 w.0 calm at is place count all hands v.0 x (subst (In x) records m)) v.0,
       v.1,
     )
-    keeps_covered (leave {f = f} {e = e} {h = h} {rest = rest} from to args callee at calm site below onward same hands cells) d w v = (covered_on e h rest same (successor (Call to callee args) below onward) v.1.0, v.1.1)
-    keeps_covered (leave_record from at below) d w v = v.1
-    keeps_covered leave_last d w v = tt
-    keeps_covered (move {f = f} {h = h} {rest = rest} at same place cells records) d w v =
+    keeps_covered (leave {f = f} {e = e} {h = h} {rest = rest} from to args callee at calm site below onward same hands cells) u d w v = (covered_on e h rest same (successor (Call to callee args) below onward) v.1.0, v.1.1)
+    keeps_covered (leave_record from at below) u d w v = v.1
+    keeps_covered leave_last u d w v = tt
+    keeps_covered (move {f = f} {h = h} {rest = rest} at same place cells records) u d w v =
         (covered_at f h rest same.function same.site (subst (λ n. IsIn p n f.function) (sym place) v.0.place) (λ x m. v.0.records x (records x m)) v.0, v.1)
-    keeps_covered (unwind {f = f} {h = h} {rest = rest} b) d w v = (covered_panic f h rest b v.0, v.1)
-    keeps_covered (unwind_drop {f = f} {e = e} {h = h} {rest = rest} at b) d w v = (covered_panic e h rest b v.1.0, v.1.1)
+    keeps_covered (unwind {f = f} {h = h} {rest = rest} b) u d w v = (covered_panic f h rest b v.0, v.1)
+    keeps_covered (unwind_drop {f = f} {e = e} {h = h} {rest = rest} at b) u d w v = (covered_panic e h rest b v.1.0, v.1.1)
 
     -- a goroutine that starts
     pub starts_covered : {old new : View} {started : List (List Frame)} → Effect p l g old new started → EachFrame (FrameDefined p) old.frames → EachFrame (FrameOwned p g) old.frames → EachFrame (FrameCovered p) old.frames → (frames : List Frame) → In frames started → EachFrame (FrameCovered p) frames

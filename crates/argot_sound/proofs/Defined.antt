@@ -99,7 +99,7 @@ module _ (p : Code) (wf : WellFormed p) where
         (record { each = λ _ c m. (let a = again c m in param_at h fn y.place c b a.within a.put) }, (same_place f f' rest same.panics place cells d.0, d.1))
     keeps_defined (start {f = f} {f' = f'} {rest = rest} args callee takes fn at calm is onward same cells b hands again) d =
         (stays_at (Go callee args) f f' rest at refl onward calm cells d.0, d.1)
-    keeps_defined (keep {f = f} {h = h} {rest = rest} args callee y at calm is onward same cells records place count hands) d =
+    keeps_defined (keep {f = f} {h = h} {rest = rest} args callee y at calm is onward same cells records place count all hands) d =
         (stays_at (Defer callee args) f h rest at refl onward calm cells d.0, d.1)
     keeps_defined (leave {f = f} {e = e} {h = h} {rest = rest} from to args callee at calm site below onward same hands cells) d = (
       record {

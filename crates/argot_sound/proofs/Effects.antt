@@ -6,7 +6,7 @@ use Rattle.argot_plain.specs.Code.{Code, IsAt, IsFunction, IsIn, by_call, by_go,
 use Rattle.argot_plain.specs.Machine.{Labelling, Object, Content, content, Cell, Slot, Frame, View, put_cell, same_labels, returned, written, added, recopied}
 use Rattle.argot_plain.specs.Outside.{result_labels}
 use Rattle.argot_plain.specs.Puts.{fresh_object}
-use Rattle.argot_plain.specs.Step.{Acts, act_puts, act_stores, act_stores_nothing, act_grows, act_grows_nothing, act_grows_anew, act_enters, act_calls_outside, act_starts, act_starts_outside, act_keeps, act_runs, act_runs_outside, act_runs_nothing, act_exits, act_leaves, act_leaves_deferred, act_ends, act_panics, act_drops, act_drops_last, goes_on, at_place, begins, panicking, with_records, handing, leaving, entering, resuming, record_of}
+use Rattle.argot_plain.specs.Step.{view, Acts, act_puts, act_stores, act_stores_nothing, act_grows, act_grows_nothing, act_grows_anew, act_enters, act_calls_outside, act_starts, act_starts_outside, act_keeps, act_runs, act_runs_outside, act_runs_nothing, act_exits, act_leaves, act_leaves_deferred, act_ends, act_panics, act_drops, act_drops_last, goes_on, at_place, begins, panicking, with_records, handing, leaving, entering, resuming, record_of}
 use Rattle.argot_plain.specs.WellFormed.{WellFormed}
 use Rattle.argot_plain.specs.declared.functions.Function.{Function}
 use Rattle.argot_plain.specs.declared.instructions.Kind.{Kind}
@@ -50,16 +50,16 @@ module _ (p : Code) (wf : WellFormed p) (l : Labelling) (g : ℕ) where
             (held_carries p wf l g ss f (Grow to at items) 0 at [] [] x h (inl (refl, refl, refl, refl))) (held_brings p wf l g ss f (Grow to at items) 0 at [] [] x h (inl (refl, refl, refl, refl)));
       })
 
-  pub effect : {old new : View} {started : List (List Frame)} {ended : Bool} → EachFrame (StandsInside p) old.frames → Acts p l g old new started ended → Effect p l g old new started
-  effect v (act_puts {ss} {n} {f} {rest} kind given j at calm gives next) =
+  pub effect : {ss : List Slot} {n : ℕ} {frames : List Frame} {new : View} {started : List (List Frame)} {ended : Bool} → EachFrame (StandsInside p) frames → Acts p l g ss n frames new started ended → Effect p l g (view ss n frames) new started
+  effect {ss} {n} v (act_puts {f} {rest} kind given j at calm gives next) =
       put {h = goes_on f (defined kind) given j} kind at calm next (same_frame f (defined kind) given j)
       (puts_or_keeps kind ss f (defined kind) given refl (puts_kind p wf l g ss f kind n given v.0 at gives) j)
-  effect v (act_stores {ss} {n} {f} {rest} at from o base x j is calm m e next) =
+  effect {ss} {n} v (act_stores {f} {rest} at from o base x j is calm m e next) =
       let h = In-value at [] f.cells x m in
       store {h = at_place f j} (Write at from) is calm next (moved_frame f j) (λ c k. inr (record { held = k; other = refl }))
       (λ s k. elim (In-after_write s (written p l f.place from o base (leaves p f.function from) f.cells) ss k) [ inl a ↦ inl (write_stores p wf l g ss f at from o base x v.0 is h e s a) | inr b ↦ inr b ])
-  effect v (act_stores_nothing {f = f} at from j is calm none next) = put {h = at_place f j} (Write at from) is calm next (moved_frame f j) (λ c k. inr (record { held = k; other = refl }))
-  effect v (act_grows {ss} {n} {f} {rest} to at items s site o base x j is calm sited m e next) =
+  effect {ss} {n} v (act_stores_nothing {f = f} at from j is calm none next) = put {h = at_place f j} (Write at from) is calm next (moved_frame f j) (λ c k. inr (record { held = k; other = refl }))
+  effect {ss} {n} v (act_grows {f} {rest} to at items s site o base x j is calm sited m e next) =
       let h = In-value at [] f.cells x m in
       store {h = goes_on f (to ∷ []) (put_cell l same_labels to f.place 0 [] x ∷ []) j} (Grow to at items) is calm next (same_frame f (to ∷ []) (put_cell l same_labels to f.place 0 [] x ∷ []) j)
       (puts_or_keeps (Grow to at items) ss f (to ∷ []) (put_cell l same_labels to f.place 0 [] x ∷ []) refl (grow_puts ss f to at items x v.0 is h) j)
@@ -67,10 +67,10 @@ module _ (p : Code) (wf : WellFormed p) (l : Labelling) (g : ℕ) where
         | inl a ↦ inl (grow_stores p wf l g ss f to at items s site o base is sited (λ q. From.by_grow to at items base refl (refers_of at f.cells x o base h e) refl) y a)
         | inr b ↦ inr b
       ])
-  effect v (act_grows_nothing {ss} {n} {f} {rest} to at x j is calm m none next) =
+  effect {ss} {n} v (act_grows_nothing {f} {rest} to at x j is calm m none next) =
       put {h = goes_on f (to ∷ []) (put_cell l same_labels to f.place 0 [] x ∷ []) j} (Grow to at []) is calm next (same_frame f (to ∷ []) (put_cell l same_labels to f.place 0 [] x ∷ []) j)
       (puts_or_keeps (Grow to at []) ss f (to ∷ []) (put_cell l same_labels to f.place 0 [] x ∷ []) refl (grow_puts ss f to at [] x v.0 is (In-value at [] f.cells x m)) j)
-  effect v (act_grows_anew {ss} {n} {f} {rest} to at items s site x j is calm sited m next) =
+  effect {ss} {n} v (act_grows_anew {f} {rest} to at items s site x j is calm sited m next) =
       let h = In-value at [] f.cells x m in
       let o : Object = record { site = s; maker = g; serial = n } in
       let y = content (fresh_object s g n) x.labels in
@@ -89,38 +89,38 @@ module _ (p : Code) (wf : WellFormed p) (l : Labelling) (g : ℕ) where
         ]
         | inr b ↦ inr b
       ])
-  effect v (act_enters {ss} {n} {f} {rest} to callee args h takes fn at calm is isf body) =
+  effect {ss} {n} v (act_enters {f} {rest} to callee args h takes fn at calm is isf body) =
       enter {h = entering p l f (length to) callee args h takes fn} to args callee takes fn at calm is (begins_at p h fn _ f.place isf body)
       (call_hands p wf l g ss f (Call to callee args) callee args (length to) v.0 at by_call)
       (entered p wf l h takes (length (arguments callee args)) fn (handing p l f (length to) callee args) isf)
-  effect v (act_calls_outside {ss} {n} {f} {rest} to callee args h takes fn flows ls given j at calm is isf ext carries gives next) =
+  effect {ss} {n} v (act_calls_outside {f} {rest} to callee args h takes fn flows ls given j at calm is isf ext carries gives next) =
       put {h = goes_on f to given j} (Call to callee args) at calm next (same_frame f to given j)
       (puts_or_keeps (Call to callee args) ss f to given refl (outside_puts p wf l g ss f n to args callee h takes fn flows ls given v.0 at is isf ext carries gives) j)
-  effect v (act_starts {ss} {n} {f} {rest} callee args h takes fn j at calm is isf body next) =
+  effect {ss} {n} v (act_starts {f} {rest} callee args h takes fn j at calm is isf body next) =
       start {f' = at_place f j} {h = entering p l f 0 callee args h takes fn} args callee takes fn at calm is next (moved_frame f j) refl (begins_at p h fn _ f.place isf body)
       (call_hands p wf l g ss f (Go callee args) callee args 0 v.0 at by_go)
       (entered p wf l h takes (length (arguments callee args)) fn (handing p l f 0 callee args) isf)
-  effect v (act_starts_outside {f = f} callee args h takes fn flows j at calm is isf ext next) = put {h = at_place f j} (Go callee args) at calm next (moved_frame f j) (λ c k. inr (record { held = k; other = refl }))
-  effect v (act_keeps {ss} {n} {f} {rest} callee args target j at calm is next) =
-      keep {h = with_records (at_place f j) (record_of p l f callee args target ∷ f.records)} args callee (record_of p l f callee args target) at calm is next (record { function = refl; site = refl; panics = refl }) refl refl refl refl
+  effect {ss} {n} v (act_starts_outside {f = f} callee args h takes fn flows j at calm is isf ext next) = put {h = at_place f j} (Go callee args) at calm next (moved_frame f j) (λ c k. inr (record { held = k; other = refl }))
+  effect {ss} {n} v (act_keeps {f} {rest} callee args target j at calm is next) =
+      keep {h = with_records (at_place f j) (record_of p l f callee args target ∷ f.records)} args callee (record_of p l f callee args target) at calm is next (record { function = refl; site = refl; panics = refl }) refl refl refl refl refl
       (call_hands p wf l g ss f (Defer callee args) callee args 0 v.0 at by_defer)
-  effect v (act_runs {ss} {n} {f} {rest} d ds h takes fn at records target isf body) =
+  effect {ss} {n} v (act_runs {f} {rest} d ds h takes fn at records target isf body) =
       enter_record {f' = with_records f ds} {h = resuming p l d h takes fn} d takes fn at (record { function = refl; site = refl; panics = refl }) refl refl records target (begins_at p h fn _ d.place isf body)
       (entered p wf l h takes d.count fn d.cells isf)
-  effect v (act_runs_outside {f = f} d ds h takes fn flows at records target isf ext) =
+  effect {ss} {n} v (act_runs_outside {f = f} d ds h takes fn flows at records target isf ext) =
       move {h = with_records f ds} at (record { function = refl; site = refl; panics = refl }) refl refl (λ x m. subst (In x) (sym records) (there m))
-  effect v (act_runs_nothing {f = f} d ds fn at records target isf) =
+  effect {ss} {n} v (act_runs_nothing {f = f} d ds fn at records target isf) =
       unwind {h = panicking (with_records f ds) fn} (record { fn = fn; is = isf; place = refl; function = refl; site = refl; records = λ x m. subst (In x) (sym records) (there m); cells = refl; panics = refl })
-  effect v (act_exits {f = f} j at calm records next) = put {h = at_place f j} RunDefers at calm next (moved_frame f j) (λ c k. inr (record { held = k; other = refl }))
-  effect v (act_leaves {ss} {n} {f} {e} {rest} from to callee args j at calm site below next) =
+  effect {ss} {n} v (act_exits {f = f} j at calm records next) = put {h = at_place f j} RunDefers at calm next (moved_frame f j) (λ c k. inr (record { held = k; other = refl }))
+  effect {ss} {n} v (act_leaves {f} {e} {rest} from to callee args j at calm site below next) =
       leave {h = goes_on e to (returned p l (result_labels p l e.place f.function) e.function e.place 0 to (leaving p l f from)) j} from to args callee at calm site below next (same_frame e to _ j)
       (leave_hands p wf l g ss f from v.0 at)
       (λ c m. elim (In-append c (returned p l (result_labels p l e.place f.function) e.function e.place 0 to (leaving p l f from)) _ m) [
         | inl a ↦ inl (gives_back p wf l to args callee e.place e.function f.function (leaving p l f from) v.1.0 below c a)
         | inr b ↦ inr (let k = In-kept c to e.cells b in record { held = k.0; other = k.1 })
       ])
-  effect v (act_leaves_deferred from at calm below) = leave_record from at below
-  effect v (act_ends from at calm) = leave_last
-  effect v (act_panics {f = f} fn isf calm) = unwind {h = panicking f fn} (record { fn = fn; is = isf; place = refl; function = refl; site = refl; records = λ x m. m; cells = refl; panics = refl })
-  effect v (act_drops {e = e} fn at panics records isf) = unwind_drop {h = panicking e fn} at (record { fn = fn; is = isf; place = refl; function = refl; site = refl; records = λ x m. m; cells = refl; panics = refl })
-  effect v (act_drops_last at panics records) = leave_last
+  effect {ss} {n} v (act_leaves_deferred from at calm below) = leave_record from at below
+  effect {ss} {n} v (act_ends from at calm) = leave_last
+  effect {ss} {n} v (act_panics {f = f} fn isf calm) = unwind {h = panicking f fn} (record { fn = fn; is = isf; place = refl; function = refl; site = refl; records = λ x m. m; cells = refl; panics = refl })
+  effect {ss} {n} v (act_drops {e = e} fn at panics records isf) = unwind_drop {h = panicking e fn} at (record { fn = fn; is = isf; place = refl; function = refl; site = refl; records = λ x m. m; cells = refl; panics = refl })
+  effect {ss} {n} v (act_drops_last at panics records) = leave_last

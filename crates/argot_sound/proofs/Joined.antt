@@ -314,7 +314,7 @@ module _ (p : Code) (wf : WellFormed p) (l : Labelling) where
         )
     keeps_joined (start {f = f} {f' = f'} {rest = rest} args callee takes fn at calm is onward same cells b hands again) v d w so sm sj j =
         (stays_joined f f' rest same.same.site (λ c m. subst (In c) cells m) (λ x m. subst (In x) same.records m) j.0, j.1)
-    keeps_joined (keep {ss = ss} {f = f} {h = h} {rest = rest} args callee y at calm is onward same cells records place count hands) v d w so sm sj j = (
+    keeps_joined (keep {ss = ss} {f = f} {h = h} {rest = rest} args callee y at calm is onward same cells records place count all hands) v d w so sm sj j = (
       record {
         each = λ c m s i. subst (λ x. IsJoinedWithin p l s x c.atom.put) (sym (sites_on f h rest same.site)) (in_cells_case p wf (λ c. (s : Mark) → In s c.atom.labels → IsJoinedWithin p l s (call_sites f rest) c.atom.put) h
             (λ c m. j.0.each c (in_register (subst (In c) cells m)))
@@ -379,7 +379,7 @@ module _ (p : Code) (wf : WellFormed p) (l : Labelling) where
     keeps_slots_joined (enter to args callee takes fn at calm is b hands cells) v d w so sm j sj x m = sj x m
     keeps_slots_joined (enter_record y takes fn at same place cells records target b again) v d w so sm j sj x m = sj x m
     keeps_slots_joined (start args callee takes fn at calm is onward same cells b hands again) v d w so sm j sj x m = sj x m
-    keeps_slots_joined (keep args callee y at calm is onward same cells records place count hands) v d w so sm j sj x m = sj x m
+    keeps_slots_joined (keep args callee y at calm is onward same cells records place count all hands) v d w so sm j sj x m = sj x m
     keeps_slots_joined (leave from to args callee at calm site below onward same hands cells) v d w so sm j sj x m = sj x m
     keeps_slots_joined (leave_record from at below) v d w so sm j sj x m = sj x m
     keeps_slots_joined leave_last v d w so sm j sj x m = sj x m

@@ -3,6 +3,7 @@ pub mod Puts
 pub mod Given
 pub mod Handing
 pub mod Effects
+pub mod Single
 pub mod Defined
 pub mod Points
 pub mod Covered

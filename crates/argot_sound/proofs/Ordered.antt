@@ -41,7 +41,7 @@ module _ (p : Code) (wf : WellFormed p) (l : Labelling) (g : ℕ) where
       Order.then x (pair_at f.place gn.exit h.place fn.entry (wf.runs_at_exit.alone f.place f.function gn at v.0.place v.0.place.is) b.place
       (Order.runs y.place f.function h.function rc.args rc.callee takes gn fn rc.place rc.is (rc.targets h.function takes target) v.0.place.is b.is))
   tops_follow (start {f = f} {f' = f'} {rest = rest} args callee takes fn at calm is onward same cells b hands again) d w v a x = Order.then x (Order.goes (live_place p wf f rest v.0) (successor (Go callee args) at onward))
-  tops_follow (keep {f = f} {h = h} {rest = rest} args callee y at calm is onward same cells records place count hands) d w v a x = Order.then x (Order.goes (live_place p wf f rest v.0) (successor (Defer callee args) at onward))
+  tops_follow (keep {f = f} {h = h} {rest = rest} args callee y at calm is onward same cells records place count all hands) d w v a x = Order.then x (Order.goes (live_place p wf f rest v.0) (successor (Defer callee args) at onward))
   tops_follow (leave {f = f} {e = e} {h = h} {rest = rest} from to args callee at calm site below onward same hands cells) d w v a x =
       let fn = v.0.place.fn in
       let called = called_case p wf f e rest to callee args below v.0.called v.1.0 in
@@ -102,7 +102,7 @@ module _ (p : Code) (wf : WellFormed p) (l : Labelling) (g : ℕ) where
   slots_ordered gs (enter to args callee takes fn at calm is b hands cells) get v d w so l' x m = l' x m
   slots_ordered gs (enter_record y takes fn at same place cells records target b again) get v d w so l' x m = l' x m
   slots_ordered gs (start args callee takes fn at calm is onward same cells b hands again) get v d w so l' x m = l' x m
-  slots_ordered gs (keep args callee y at calm is onward same cells records place count hands) get v d w so l' x m = l' x m
+  slots_ordered gs (keep args callee y at calm is onward same cells records place count all hands) get v d w so l' x m = l' x m
   slots_ordered gs (leave from to args callee at calm site below onward same hands cells) get v d w so l' x m = l' x m
   slots_ordered gs (leave_record from at below) get v d w so l' x m = l' x m
   slots_ordered gs leave_last get v d w so l' x m = l' x m

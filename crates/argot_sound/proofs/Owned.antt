@@ -22,9 +22,10 @@ use Rattle.argot_facts.specs.Refers.{Holds, Targets, IsLive, NodeRefers, PlaceRe
 use Rattle.argot_facts.specs.Refers as Rules
 use Rattle.argot_sound.specs.Effects.{Effect, put, store, enter, enter_record, start, keep, leave, leave_record, leave_last, move, unwind, unwind_drop, Begins, Given, Puts, Keeps, HandsOn, Entered, GivesBack, Stores, StoresAt, Brings, Makes, Finds, FindsAt}
 use Rattle.argot_sound.specs.Effects as From
-use Rattle.argot_sound.specs.Laws.{EachFrame, InFrame, in_register, in_record, FrameDefined, FrameCovered, IsOwned, FrameOwned, SlotOwned}
+use Rattle.argot_sound.specs.Laws.{EachFrame, FrameSingle, AllGo, InFrame, in_register, in_record, FrameDefined, FrameCovered, IsOwned, FrameOwned, SlotOwned}
 use Rattle.argot_sound.proofs.Defined.{taken_from, not_entry}
 use Rattle.argot_sound.proofs.Covered.{called_case}
+use Rattle.argot_sound.proofs.Single.{goes_to_chosen}
 use Rattle.argot_sound.proofs.Points.{copies_inner, live_place, points_to, targets_of, leaf_is_path, written_path}
 
 -- two references that are equal
@@ -188,9 +189,9 @@ module _ (p : Code) (wf : WellFormed p) where
 
   module _ (l : Labelling) where
     -- a parameter
-    entered_owned : (g i n h : ℕ) (kind : Kind) (callee : Callee) (args : List ℕ) (takes : Bool) (count : ℕ) (fn : Function) (cells : List Cell) (c : Cell) → IsAt p i kind → Hands kind callee args n → Holds p (Targets i h takes) → IsFunction p h fn → count ≡ length (arguments callee args)
+    entered_owned : (g i n h : ℕ) (kind : Kind) (callee : Callee) (args : List ℕ) (takes : Bool) (count : ℕ) (fn : Function) (cells : List Cell) (c : Cell) → IsAt p i kind → Hands kind callee args n → Holds p (Targets i h takes) → IsFunction p h fn → count ≡ length (arguments callee args) → AllGo p callee args cells h
         → (a : Entered p l takes count fn cells c) → a.from.atom.put ≡ mark i (n + a.from.register) a.from.leaf → IsOwned p g a.from.atom.put a.from.atom.value → IsOwned p g c.atom.put c.atom.value
-    entered_owned g i n h kind callee args takes count fn cells c at hands targets is counted a handed w = record {
+    entered_owned g i n h kind callee args takes count fn cells c at hands targets is counted goes a handed w = record {
       node = a.again.node;
       each = λ o path e.
           let x = w.each o path (sym a.again.value ∙ e) in
@@ -198,7 +199,7 @@ module _ (p : Code) (wf : WellFormed p) where
           let h2 = subst (λ q. Holds p (NodeRefers (mark i (n + a.from.register) q) (loc o.site path))) (sym a.leaf) h1 in
           let param = subst (λ z. param_of takes z a.from.register ≡ Some c.register) counted a.param in
           let node = subst (IsNode p) a.put a.again.node in
-          (subst (λ m. Holds p (NodeRefers m (loc o.site path))) (sym a.put) (Rules.param i h n a.from.register takes kind callee args fn at hands targets param is refl node h2), x.1);
+          (subst (λ m. Holds p (NodeRefers m (loc o.site path))) (sym a.put) (Rules.param i h n a.from.register takes kind callee args fn at hands targets param (goes.each a.from a.held o path (sym a.again.value ∙ e)) is refl node h2), x.1);
     }
 
     module _ (g : ℕ) where
@@ -235,37 +236,37 @@ module _ (p : Code) (wf : WellFormed p) where
       }
 
       -- each step keeps it, by the laws so far
-      pub keeps_owned : {old new : View} {started : List (List Frame)} → Effect p l g old new started → EachFrame (FrameCovered p) old.frames → EachFrame (FrameDefined p) old.frames → ((x : Slot) → In x old.slots → SlotOwned p x)
+      pub keeps_owned : {old new : View} {started : List (List Frame)} → Effect p l g old new started → EachFrame FrameSingle old.frames → EachFrame (FrameCovered p) old.frames → EachFrame (FrameDefined p) old.frames → ((x : Slot) → In x old.slots → SlotOwned p x)
           → EachFrame (FrameOwned p g) old.frames → EachFrame (FrameOwned p g) new.frames
-      keeps_owned (put {ss = ss} {f = f} {h = h} {rest = rest} kind at calm onward same cells) v d so w = (put_owned f h rest ss kind d.0 v.0 w.0 so calm at cells same.records, w.1)
-      keeps_owned (store {ss = ss} {f = f} {h = h} {rest = rest} kind at calm onward same cells slots) v d so w = (put_owned f h rest ss kind d.0 v.0 w.0 so calm at cells same.records, w.1)
-      keeps_owned (enter {ss = ss} {f = f} {h = h} {rest = rest} to args callee takes fn at calm is b hands cells) v d so w = (
+      keeps_owned (put {ss = ss} {f = f} {h = h} {rest = rest} kind at calm onward same cells) u v d so w = (put_owned f h rest ss kind d.0 v.0 w.0 so calm at cells same.records, w.1)
+      keeps_owned (store {ss = ss} {f = f} {h = h} {rest = rest} kind at calm onward same cells slots) u v d so w = (put_owned f h rest ss kind d.0 v.0 w.0 so calm at cells same.records, w.1)
+      keeps_owned (enter {ss = ss} {f = f} {h = h} {rest = rest} to args callee takes fn at calm is b hands cells) u v d so w = (
         record {
           each = in_cells_case (λ c. IsOwned p g c.atom.put c.atom.value) h
               (λ c m. let a = cells c m in let hd = hands a.from a.held in
               entered_owned g f.place (length to) h.function (Call to callee args) callee args takes (length (arguments callee args)) fn (handing p l f (length to) callee args) c at by_call
-              (targets_of p wf g f rest (Call to callee args) callee args (length to) h.function takes d.0 v.0 w.0 calm at by_call is) b.is refl a hd.given.put
+              (targets_of p wf g f rest (Call to callee args) callee args (length to) h.function takes d.0 v.0 w.0 calm at by_call is) b.is refl (goes_to_chosen p wf l f rest (Call to callee args) callee args (length to) h.function takes u.0 v.0.place at by_call is) a hd.given.put
               (given_owned l g f rest ss (Call to callee args) d.0 v.0 w.0 so calm at (length to + a.from.register) a.from.leaf a.from hd.given))
               (λ x m c k. absurd (elim (subst (In x) b.none m) [ ]));
         },
         w,
       )
-      keeps_owned (enter_record {f = f} {f' = f'} {h = h} {rest = rest} y takes fn at same place cells records target b again) v d so w =
+      keeps_owned (enter_record {f = f} {f' = f'} {h = h} {rest = rest} y takes fn at same place cells records target b again) u v d so w =
           let m0 = subst (In y) (sym records) (here refl) in
           let rc = v.0.records y m0 in (
             record {
               each = in_cells_case (λ c. IsOwned p g c.atom.put c.atom.value) h
                   (λ c m. let a = again c m in
                   let z : a.from.register ≡ 0 + a.from.register = omega arith in
-                  entered_owned g y.place 0 h.function (Defer rc.callee rc.args) rc.callee rc.args takes y.count fn y.cells c rc.is by_defer (rc.targets h.function takes target) b.is rc.count a
+                  entered_owned g y.place 0 h.function (Defer rc.callee rc.args) rc.callee rc.args takes y.count fn y.cells c rc.is by_defer (rc.targets h.function takes target) b.is rc.count (rc.chosen h.function takes target) a
                   (rc.each a.from a.held ∙ ap (λ k. mark y.place k a.from.leaf) z) (w.0.each a.from (in_record y m0 a.held)))
                   (λ x m c k. absurd (elim (subst (In x) b.none m) [ ]));
             },
             (stays_owned l g f f' rest rest (λ c m. subst (In c) cells m) (λ x m. subst (In x) (sym records) (there m)) w.0, w.1),
           )
-      keeps_owned (start {f = f} {f' = f'} {rest = rest} args callee takes fn at calm is onward same cells b hands again) v d so w =
+      keeps_owned (start {f = f} {f' = f'} {rest = rest} args callee takes fn at calm is onward same cells b hands again) u v d so w =
           (stays_owned l g f f' rest rest (λ c m. subst (In c) cells m) (λ x m. subst (In x) same.records m) w.0, w.1)
-      keeps_owned (keep {ss = ss} {f = f} {h = h} {rest = rest} args callee y at calm is onward same cells records place count hands) v d so w = (
+      keeps_owned (keep {ss = ss} {f = f} {h = h} {rest = rest} args callee y at calm is onward same cells records place count all hands) u v d so w = (
         record {
           each = in_cells_case (λ c. IsOwned p g c.atom.put c.atom.value) h (λ c m. w.0.each c (in_register (subst (In c) cells m)))
               (λ x m c k. kept_owned x (subst (In x) records m) c k);
@@ -276,7 +277,7 @@ module _ (p : Code) (wf : WellFormed p) where
           kept_owned : (x : Deferred) → In x (y ∷ f.records) → (c : Cell) → In c x.cells → IsOwned p g c.atom.put c.atom.value
           kept_owned x (here e) c k = let hd = hands c (subst (λ (z : Deferred). In c z.cells) e k) in given_owned l g f rest ss (Defer callee args) d.0 v.0 w.0 so calm at (0 + c.register) c.leaf c hd.given
           kept_owned x (there m) c k = w.0.each c (in_record x m k)
-      keeps_owned (leave {ss = ss} {f = f} {e = e} {h = h} {rest = rest} from to args callee at calm site below onward same hands cells) v d so w =
+      keeps_owned (leave {ss = ss} {f = f} {e = e} {h = h} {rest = rest} from to args callee at calm site below onward same hands cells) u v d so w =
           let called = called_case p wf f e rest to callee args below v.0.called v.1.0 in (
             record {
               each = in_cells_case (λ c. IsOwned p g c.atom.put c.atom.value) h
@@ -285,11 +286,11 @@ module _ (p : Code) (wf : WellFormed p) where
             },
             w.1.1,
           )
-      keeps_owned (leave_record from at below) v d so w = w.1
-      keeps_owned leave_last v d so w = tt
-      keeps_owned (move {f = f} {h = h} {rest = rest} at same place cells records) v d so w = (stays_owned l g f h rest rest (λ c m. subst (In c) cells m) records w.0, w.1)
-      keeps_owned (unwind {f = f} {h = h} {rest = rest} b) v d so w = (stays_owned l g f h rest rest (λ c m. subst (In c) b.cells m) b.records w.0, w.1)
-      keeps_owned (unwind_drop {f = f} {e = e} {h = h} {rest = rest} at b) v d so w = (stays_owned l g e h rest rest (λ c m. subst (In c) b.cells m) b.records w.1.0, w.1.1)
+      keeps_owned (leave_record from at below) u v d so w = w.1
+      keeps_owned leave_last u v d so w = tt
+      keeps_owned (move {f = f} {h = h} {rest = rest} at same place cells records) u v d so w = (stays_owned l g f h rest rest (λ c m. subst (In c) cells m) records w.0, w.1)
+      keeps_owned (unwind {f = f} {h = h} {rest = rest} b) u v d so w = (stays_owned l g f h rest rest (λ c m. subst (In c) b.cells m) b.records w.0, w.1)
+      keeps_owned (unwind_drop {f = f} {e = e} {h = h} {rest = rest} at b) u v d so w = (stays_owned l g e h rest rest (λ c m. subst (In c) b.cells m) b.records w.1.0, w.1.1)
 
       -- what a Go hands on escapes, so that any goroutine may hold it
       pub go_owned : (g' : ℕ) (f : Frame) (rest : List Frame) (callee : Callee) (args : List ℕ) (k : ℕ) (q : List PathStep) (n : Mark) (x : Datum) → FrameCovered p f rest → IsAt p f.place (Go callee args) → n ≡ mark f.place k q → IsOwned p g n x → IsOwned p g' n x
@@ -298,22 +299,22 @@ module _ (p : Code) (wf : WellFormed p) where
         each = λ o path e. let y = w.each o path e in (y.0, inl (Escaping.by_go f.place k q path callee args (live_place p wf f rest v) at (subst (λ m. Holds p (NodeRefers m (loc o.site path))) same y.0)));
       }
 
-      pub starts_owned : (g' : ℕ) {old new : View} {started : List (List Frame)} → Effect p l g old new started → EachFrame (FrameCovered p) old.frames → EachFrame (FrameDefined p) old.frames → ((x : Slot) → In x old.slots → SlotOwned p x) → EachFrame (FrameOwned p g) old.frames
+      pub starts_owned : (g' : ℕ) {old new : View} {started : List (List Frame)} → Effect p l g old new started → EachFrame FrameSingle old.frames → EachFrame (FrameCovered p) old.frames → EachFrame (FrameDefined p) old.frames → ((x : Slot) → In x old.slots → SlotOwned p x) → EachFrame (FrameOwned p g) old.frames
           → (frames : List Frame) → In frames started → EachFrame (FrameOwned p g') frames
-      starts_owned g' (start {ss = ss} {f = f} {f' = f'} {h = h} {rest = rest} args callee takes fn at calm is onward same cells b hands again) v d so w frames (here e) = subst (EachFrame (FrameOwned p g')) (sym e) (
+      starts_owned g' (start {ss = ss} {f = f} {f' = f'} {h = h} {rest = rest} args callee takes fn at calm is onward same cells b hands again) u v d so w frames (here e) = subst (EachFrame (FrameOwned p g')) (sym e) (
         record {
           each = in_cells_case (λ c. IsOwned p g' c.atom.put c.atom.value) h
               (λ c m. let a = again c m in let hd = hands a.from a.held in
               entered_owned g' f.place 0 h.function (Go callee args) callee args takes (length (arguments callee args)) fn (handing p l f 0 callee args) c at by_go
-              (targets_of p wf g f rest (Go callee args) callee args 0 h.function takes d.0 v.0 w.0 calm at by_go is) b.is refl a hd.given.put
+              (targets_of p wf g f rest (Go callee args) callee args 0 h.function takes d.0 v.0 w.0 calm at by_go is) b.is refl (goes_to_chosen p wf l f rest (Go callee args) callee args 0 h.function takes u.0 v.0.place at by_go is) a hd.given.put
               (go_owned g' f rest callee args (0 + a.from.register) a.from.leaf a.from.atom.put a.from.atom.value v.0 at hd.given.put
               (given_owned l g f rest ss (Go callee args) d.0 v.0 w.0 so calm at (0 + a.from.register) a.from.leaf a.from hd.given)))
               (λ x m c k. absurd (elim (subst (In x) b.none m) [ ]));
         },
         tt,
       )
-      starts_owned g' (start args callee takes fn at calm is onward same cells b hands again) v d so w frames (there m) = elim m [ ]
-      starts_owned g' _ v d so w frames m = elim m [ ]
+      starts_owned g' (start args callee takes fn at calm is onward same cells b hands again) u v d so w frames (there m) = elim m [ ]
+      starts_owned g' _ u v d so w frames m = elim m [ ]
 
       -- what is stored
       pub keeps_slots_owned : {old new : View} {started : List (List Frame)} → Effect p l g old new started → EachFrame (FrameCovered p) old.frames → EachFrame (FrameDefined p) old.frames → EachFrame (FrameOwned p g) old.frames
@@ -324,7 +325,7 @@ module _ (p : Code) (wf : WellFormed p) where
       keeps_slots_owned (enter to args callee takes fn at calm is b hands cells) v d w so x m = so x m
       keeps_slots_owned (enter_record y takes fn at same place cells records target b again) v d w so x m = so x m
       keeps_slots_owned (start args callee takes fn at calm is onward same cells b hands again) v d w so x m = so x m
-      keeps_slots_owned (keep args callee y at calm is onward same cells records place count hands) v d w so x m = so x m
+      keeps_slots_owned (keep args callee y at calm is onward same cells records place count all hands) v d w so x m = so x m
       keeps_slots_owned (leave from to args callee at calm site below onward same hands cells) v d w so x m = so x m
       keeps_slots_owned (leave_record from at below) v d w so x m = so x m
       keeps_slots_owned leave_last v d w so x m = so x m

@@ -36,7 +36,7 @@ module _ (p : Code) (wf : WellFormed p) (l : Labelling) where
     keeps_exits (enter {f = f} {h = h} to args callee takes fn at calm is b hands cells) v x = (λ e. both_ways h.panics e b.calm, x)
     keeps_exits (enter_record {f = f} {f' = f'} {h = h} y takes fn at same place cells records target b again) v x = (λ e. both_ways h.panics e b.calm, (λ e. subst (λ i. IsAt p i RunDefers) (sym place) at, x.1))
     keeps_exits (start {f = f} {f' = f'} args callee takes fn at calm is onward same cells b hands again) v x = (calm_on f f' calm same.same.panics, x.1)
-    keeps_exits (keep {f = f} {h = h} args callee y at calm is onward same cells records place count hands) v x = (calm_on f h calm same.panics, x.1)
+    keeps_exits (keep {f = f} {h = h} args callee y at calm is onward same cells records place count all hands) v x = (calm_on f h calm same.panics, x.1)
     keeps_exits (leave {f = f} {e = e} {h = h} from to args callee at calm site below onward same hands cells) v x =
         (λ panics. (let k = sym below ∙ x.1.0 (sym same.same.panics ∙ panics) in absurd cc), x.1.1)
     keeps_exits (leave_record from at below) v x = x.1

@@ -62,13 +62,14 @@ pub record CopiedAt (l : Labelling) (f : Change) (r to i k : ℕ) (qs : List (Li
   pub leaf : List PathStep
   pub among : In leaf qs
   pub what : Content
+  pub among_values : In what (value_at r leaf cells)
   pub held : HeldAt r leaf cells what
   pub is : c ≡ put_cell l f to i k leaf what
 
 copied_case : (l : Labelling) (f : Change) (r to i k : ℕ) (q : List PathStep) (qs : List (List PathStep)) (cells : List Cell) (c : Cell) → (In c (copied l f r to i k qs cells) → CopiedAt l f r to i k qs cells c)
     → In c (map (put_cell l f to i k q) (value_at r q cells)) ⊎ In c (copied l f r to i k qs cells) → CopiedAt l f r to i k (q ∷ qs) cells c
-copied_case l f r to i k q qs cells c rec (inl h) = let m = In-map (put_cell l f to i k q) c (value_at r q cells) h in record { leaf = q; among = here refl; what = m.0; held = In-value r q cells m.0 m.1; is = m.2 }
-copied_case l f r to i k q qs cells c rec (inr h) = let m = rec h in record { leaf = m.leaf; among = there m.among; what = m.what; held = m.held; is = m.is }
+copied_case l f r to i k q qs cells c rec (inl h) = let m = In-map (put_cell l f to i k q) c (value_at r q cells) h in record { leaf = q; among = here refl; what = m.0; among_values = m.1; held = In-value r q cells m.0 m.1; is = m.2 }
+copied_case l f r to i k q qs cells c rec (inr h) = let m = rec h in record { leaf = m.leaf; among = there m.among; what = m.what; among_values = m.among_values; held = m.held; is = m.is }
 
 pub In-copied : (l : Labelling) (f : Change) (r to i k : ℕ) (qs : List (List PathStep)) (cells : List Cell) (c : Cell) → In c (copied l f r to i k qs cells) → CopiedAt l f r to i k qs cells c
 In-copied l f r to i k [] cells c h = elim h [ ]

@@ -1,7 +1,7 @@
 -- The laws hold in each state of a run.
 use Rattle.std.proofs.Common.{◌≡◌, ℕ, zero, suc, ◌≤◌, Bool, List, [], ◌∷◌, ◌++◌, Some, None, sym, ◌∙◌, subst, inl, inr, arith}
 use Rattle.std.specs.Prelude.{◌⊎◌, slice_get, slice_set}
-use Rattle.argot_plain.specs.Lists.{In}
+use Rattle.argot_plain.specs.Lists.{In, here, there}
 use Rattle.argot_plain.specs.Code.{Code, IsFunction}
 use Rattle.argot_plain.specs.WellFormed.{WellFormed}
 use Rattle.argot_plain.specs.Machine.{Labelling, Cell, Slot, Frame, View, State}
@@ -11,13 +11,14 @@ use Rattle.argot_plain.specs.declared.functions.Function.{Function}
 use Rattle.argot_facts.specs.Escapes.{Escapes}
 use Rattle.argot_facts.specs.Refers.{entry_is_live}
 use Rattle.argot_sound.specs.Effects.{Effect}
-use Rattle.argot_sound.specs.Laws.{Laws, GoroutineLaws, EachFrame, FrameCovered, SlotOwned, TopFollows, IsOrdered, IsJoined, in_register, in_record, InFrame}
+use Rattle.argot_sound.specs.Laws.{Laws, GoroutineLaws, EachFrame, IsSingle, FrameSingle, FrameCovered, SlotOwned, TopFollows, IsOrdered, IsJoined, in_register, in_record, InFrame}
 use Rattle.argot_sound.proofs.Lists.{replaced_cases}
 use Rattle.argot_sound.proofs.Effects.{effect, StandsInside}
 use Rattle.argot_sound.proofs.Covered.{keeps_covered, starts_covered}
 use Rattle.argot_sound.proofs.Defined.{keeps_defined, starts_defined}
 use Rattle.argot_sound.proofs.Owned.{keeps_owned, starts_owned, keeps_slots_owned}
 use Rattle.argot_sound.proofs.Ordered.{keeps_ordered}
+use Rattle.argot_sound.proofs.Single.{keeps_single, starts_single}
 use Rattle.argot_sound.proofs.Joined.{keeps_joined, starts_joined, keeps_slots_joined}
 
 -- what an object of this goroutine holds, where its law says of which frames
@@ -35,9 +36,9 @@ stand_inside p [] v = tt
 stand_inside p (f ∷ rest) v = (v.0.place, stand_inside p rest v.1)
 
 module _ (p : Code) (wf : WellFormed p) (l : Labelling) where
-  acts : (g : ℕ) (s : State) (frames : List Frame) {v : View} {started : List (List Frame)} → slice_get s.goroutines g ≡ Some frames → Effect p l g (view s.slots s.fresh frames) v started → Laws p l s
+  acts : (g : ℕ) (s : State) (frames : List Frame) {v : View} {started : List (List Frame)} → slice_get s.goroutines g ≡ Some frames → Effect p l g (view s.slots s.fresh frames) v started → Laws p l s → EachFrame FrameSingle v.frames → ((fs : List Frame) → In fs started → EachFrame FrameSingle fs)
       → (ended : Bool) → Laws p l (record { slots = v.slots; fresh = v.fresh; goroutines = slice_set s.goroutines g v.frames ++ started; ended = ended })
-  acts g s frames {v} {started} get e laws ended =
+  acts g s frames {v} {started} get e laws sv sf ended =
       let gl = laws.goroutine g frames get in
       let so : (x : Slot) → In x s.slots → SlotOwned p x = λ x m. (laws.slot x m).owned in
       let sm : (x : Slot) → In x s.slots → x.object.maker ≡ g → Escapes p x.object.site ⊎ TopFollows p x.atom.put.place frames = λ x m. meets p g s.goroutines frames x get (laws.slot x m).ordered in
@@ -46,16 +47,18 @@ module _ (p : Code) (wf : WellFormed p) (l : Labelling) where
         goroutine = λ m fs h. elim (replaced_cases s.goroutines g v.frames started m fs h) [
           | inl a ↦ subst (λ n. GoroutineLaws p l n fs) (sym a.0) (subst (GoroutineLaws p l g) (sym a.1) (record {
             are_defined = keeps_defined p wf l g e gl.are_defined;
-            covered = keeps_covered p wf l g e gl.are_defined gl.owned gl.covered;
-            owned = keeps_owned p wf l g e gl.covered gl.are_defined so gl.owned;
+            single = sv;
+            covered = keeps_covered p wf l g e gl.single gl.are_defined gl.owned gl.covered;
+            owned = keeps_owned p wf l g e gl.single gl.covered gl.are_defined so gl.owned;
             joined = keeps_joined p wf l g e gl.covered gl.are_defined gl.owned so sm sj gl.joined;
           }))
           | inr b ↦ elim b [
             | inl c ↦ laws.goroutine m fs c
             | inr c ↦ record {
               are_defined = starts_defined p wf l g e fs c;
+              single = sf fs c;
               covered = starts_covered p wf l g e gl.are_defined gl.owned gl.covered fs c;
-              owned = starts_owned p wf l g m e gl.covered gl.are_defined so gl.owned fs c;
+              owned = starts_owned p wf l g m e gl.single gl.covered gl.are_defined so gl.owned fs c;
               joined = starts_joined p wf l g e gl.covered gl.are_defined gl.owned so sm sj gl.joined fs c;
             }
           ]
@@ -68,7 +71,10 @@ module _ (p : Code) (wf : WellFormed p) (l : Labelling) where
       }
 
   steps : {old new : State} → OneStep p l old new → Laws p l old → Laws p l new
-  steps (one_step {s} {v} {started} {ended} g frames going get a) laws = acts g s frames get (effect p wf l g (stand_inside p frames (laws.goroutine g frames get).covered) a) laws ended
+  steps (one_step {s} {v} {started} {ended} g frames going get a) laws =
+      let gl = laws.goroutine g frames get in
+      let inside = stand_inside p frames gl.covered in
+      acts g s frames get (effect p wf l g inside a) laws (keeps_single p wf l g inside gl.single a) (starts_single p wf l g gl.single a) ended
 
   none_in : (fn : Function) (c : Cell) {A : Type 0} → InFrame c (begins 0 fn [] 0) → A
   none_in fn c (in_register m) = elim m [ ]
@@ -83,6 +89,7 @@ module _ (p : Code) (wf : WellFormed p) (l : Labelling) where
       let low : fn.entry ≤ fn.entry = omega arith in
       record {
         are_defined = (record { each = λ _ c m. elim m [ ] }, tt);
+        single = (record { registers = record { each = λ c d m. elim m [ ] }; records = λ d m. elim m [ ] }, tt);
         covered = (
           record {
             place = record { fn = fn; is = is; low = low; high = high };
@@ -104,6 +111,15 @@ module _ (p : Code) (wf : WellFormed p) (l : Labelling) where
   opens : (fn : Function) → IsFunction p 0 fn → Laws p l (opening fn)
   opens fn is = record { goroutine = opens_goroutine fn is; slot = λ x m. elim m [ ] }
 
+  single_in : (frames : List Frame) → EachFrame FrameSingle frames → (f : Frame) → In f frames → IsSingle f.cells
+  single_in (h ∷ rest) v f (here e) = subst (λ (z : Frame). IsSingle z.cells) (sym e) v.0.registers
+  single_in (h ∷ rest) v f (there m) = single_in rest v.1 f m
+  single_in [] v f m = elim m [ ]
+
   pub runs : {n : ℕ} {new : State} → Run p l n new → Laws p l new
   runs (no_step fn is) = opens fn is
   runs (then_step r s) = steps s (runs r)
+
+  -- what a register holds at a leaf that doesn't lead to elements
+  pub holds_one : {n : ℕ} {x : State} → Run p l n x → (g : ℕ) (frames : List Frame) → slice_get x.goroutines g ≡ Some frames → (f : Frame) → In f frames → IsSingle f.cells
+  holds_one {x = x} r g frames get f m = single_in frames ((runs r).goroutine g frames get).single f m

@@ -231,7 +231,7 @@ pub data Effect (p : Code) (l : Labelling) (g : ℕ) : View → View → List (L
   -- the top frame gets one record
   keep : {ss : List Slot} {n n' : ℕ} {f h : Frame} {rest : List Frame} → (args : List ℕ) → (callee : Callee) → (d : Deferred)
       → IsAt p f.place (Defer callee args) → f.panics ≡ false → Resolves p f.cells callee d.target → Next (Defer callee args) f.place h.place → IsSame f h → h.cells ≡ f.cells → h.records ≡ d ∷ f.records
-      → d.place ≡ f.place → d.count ≡ length (arguments callee args) → ((c : Cell) → In c d.cells → HandsOn p l (Defer callee args) g ss f 0 c)
+      → d.place ≡ f.place → d.count ≡ length (arguments callee args) → d.cells ≡ handing p l f 0 callee args → ((c : Cell) → In c d.cells → HandsOn p l (Defer callee args) g ss f 0 c)
       → Effect p l g (view ss n (f ∷ rest)) (view ss n' (h ∷ rest)) []
   -- the top frame goes; the frame below may get atoms at nodes of its place
   leave : {ss : List Slot} {n n' : ℕ} {f e h : Frame} {rest : List Frame} → (from to args : List ℕ) → (callee : Callee)

@@ -1,7 +1,7 @@
 -- The laws that hold in each state of a run.
 use Rattle.std.specs.Prelude.{◌≡◌, ◌⊎◌, ℕ, Bool, true, false, List, [], ◌∷◌, Some, None, length, slice_get}
-use Rattle.argot_plain.specs.Lists.{In}
-use Rattle.argot_plain.specs.Code.{Code, IsAt, IsFunction, IsIn, IsEntry, Defines, arguments}
+use Rattle.argot_plain.specs.Lists.{In, has_element}
+use Rattle.argot_plain.specs.Code.{Code, IsAt, IsFunction, IsIn, IsEntry, Defines, GoesTo, arguments}
 use Rattle.argot_plain.specs.Machine.{Labelling, Datum, Ref, Object, Cell, Slot, Found, Deferred, Frame, State}
 use Rattle.argot_plain.specs.Nodes.{Mark, mark, IsNode}
 use Rattle.argot_plain.specs.declared.functions.Function.{Function}
@@ -40,6 +40,19 @@ pub record IsDefined (p : Code) (i : ℕ) (c : Cell) : Type 0 where
 pub record FrameDefined (p : Code) (f : Frame) (rest : List Frame) : Type 0 where
   pub each : f.panics ≡ false → (c : Cell) → In c f.cells → IsDefined p f.place c
 
+-- single: at a leaf that doesn't lead to elements a register holds one content at most, and so does what a record keeps for
+-- one index
+pub record IsSingle (cells : List Cell) : Type 0 where
+  pub each : (c d : Cell) → In c cells → In d cells → c.register ≡ d.register → c.leaf ≡ d.leaf → has_element c.leaf ≡ false → c ≡ d
+
+pub record FrameSingle (f : Frame) (rest : List Frame) : Type 0 where
+  pub registers : IsSingle f.cells
+  pub records : (d : Deferred) → In d f.records → IsSingle d.cells
+
+-- what goes on to the function h, of the value by which the callee is found, selects h
+pub record AllGo (p : Code) (callee : Callee) (args : List ℕ) (cells : List Cell) (h : ℕ) : Type 0 where
+  pub each : (c : Cell) → In c cells → (o : Object) (path : List PathStep) → c.atom.value ≡ Ref o path → GoesTo p callee args c.register o.site h
+
 -- covered, for frames and records: their functions have bodies and are live; the callee of each frame is a target of its call site
 pub data IsCalledAt (p : Code) (f g : Frame) : Type 0 where
   by_call : (to args : List ℕ) → (callee : Callee) → (takes : Bool) → f.site ≡ g.place → g.panics ≡ false → IsAt p g.place (Call to callee args) → Holds p (Targets g.place f.function takes) → IsCalledAt p f g
@@ -55,6 +68,7 @@ pub record RecordCovered (p : Code) (g : ℕ) (d : Deferred) : Type 0 where
   pub callee : Callee
   pub is : IsAt p d.place (Defer callee args)
   pub targets : (h : ℕ) (takes : Bool) → d.target ≡ Found h takes → Holds p (Targets d.place h takes)
+  pub chosen : (h : ℕ) (takes : Bool) → d.target ≡ Found h takes → AllGo p callee args d.cells h
   pub count : d.count ≡ length (arguments callee args)
   pub each : (c : Cell) → In c d.cells → c.atom.put ≡ mark d.place c.register c.leaf
 
@@ -107,6 +121,7 @@ pub record FrameJoined (p : Code) (l : Labelling) (f : Frame) (rest : List Frame
 
 pub record GoroutineLaws (p : Code) (l : Labelling) (g : ℕ) (frames : List Frame) : Type 0 where
   pub are_defined : EachFrame (FrameDefined p) frames
+  pub single : EachFrame FrameSingle frames
   pub covered : EachFrame (FrameCovered p) frames
   pub owned : EachFrame (FrameOwned p g) frames
   pub joined : EachFrame (FrameJoined p l) frames

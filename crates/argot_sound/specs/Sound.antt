@@ -1,11 +1,11 @@
 -- Soundness over every interleaving.
 use Rattle.std.specs.Prelude.{◌≡◌, ◌≢◌, ◌↔◌, ℕ, Bool, true, false, List, ◌∷◌, Some, slice_get}
-use Rattle.argot_plain.specs.Lists.{In}
+use Rattle.argot_plain.specs.Lists.{In, has_element}
 use Rattle.argot_plain.specs.Code.{Code}
 use Rattle.argot_plain.specs.Leak.{Leak, LabelReaches, Touches, labelled, traced}
-use Rattle.argot_plain.specs.Machine.{Labelling, Object, Slot, Frame, View, State}
+use Rattle.argot_plain.specs.Machine.{Cell, Labelling, Object, Slot, Frame, View, State}
 use Rattle.argot_plain.specs.Nodes.{Mark}
-use Rattle.argot_plain.specs.Step.{Acts, Run, view}
+use Rattle.argot_plain.specs.Step.{Acts, Run}
 use Rattle.argot_plain.specs.WellFormed.{WellFormed}
 use Rattle.argot_plain.specs.Counts.{traced_back}
 use Rattle.argot_plain.specs.declared.problems.Problem.{Problem}
@@ -44,9 +44,18 @@ EachLabelAtAPointIsAnOrigin =
     → (n : ℕ) (x : State) → Run p (traced pr begins) n x
     → (l : Mark) (t k : ℕ) → LabelReaches p (traced pr begins) x l t k → (node : Node) × IsMarked p node l × IsOrigin p pr node t k
 
+-- at a leaf that doesn't lead to elements each register of each frame holds one content at most; so a function that a
+-- reference or a box means is entered with the content that chose it
+abbrev pub EachRegisterHoldsOneContent : Type 0
+EachRegisterHoldsOneContent =
+    (p : Code) (l : Labelling) → WellFormed p → (n : ℕ) (x : State) → Run p l n x
+    → (g : ℕ) (frames : List Frame) → slice_get x.goroutines g ≡ Some frames → (f : Frame) → In f frames
+    → (c d : Cell) → In c f.cells → In d f.cells
+    → c.register ≡ d.register → c.leaf ≡ d.leaf → has_element c.leaf ≡ false → c ≡ d
+
 -- the goroutine g, whose frames these are, has a step
 abbrev pub HasStep : Code → Labelling → State → ℕ → List Frame → Type 0
-HasStep p l x g frames = (v : View) × (started : List (List Frame)) × (ended : Bool) × Acts p l g (view x.slots x.fresh frames) v started ended
+HasStep p l x g frames = (v : View) × (started : List (List Frame)) × (ended : Bool) × Acts p l g x.slots x.fresh frames v started ended
 
 -- each goroutine that hasn't ended has a step, in each state of each run
 abbrev pub EachLiveGoroutineHasAStep : Type 0

@@ -3,7 +3,7 @@
 //! contracts of the functions of this crate, which do nothing when they run.
 #![tactic(auto)]
 
-ghost use Rattle.argot_sound.specs.Sound.{EachLeakIsAFlow, EachSharedObjectEscapes, EachLabelThereIsAnEscape, EachLabelAtAPointIsAnOrigin, EachLiveGoroutineHasAStep};
+ghost use Rattle.argot_sound.specs.Sound.{EachLeakIsAFlow, EachSharedObjectEscapes, EachLabelThereIsAnEscape, EachLabelAtAPointIsAnOrigin, EachRegisterHoldsOneContent, EachLiveGoroutineHasAStep};
 
 /// Each leak of a run is a flow: where a program has no flow, no run of it leaks.
 pub fn each_leak_is_a_flow()
@@ -19,6 +19,11 @@ pub fn what_is_shared_escapes()
 /// Where data is traced back, each label at a point is an origin.
 pub fn each_label_at_a_point_is_an_origin()
     ensures { EachLabelAtAPointIsAnOrigin }
+{}
+
+/// A function that a reference or a box means is entered with the content that chose it: no register holds another one there.
+pub fn each_register_holds_one_content()
+    ensures { EachRegisterHoldsOneContent }
 {}
 
 /// Where a program hasn't ended, each of its goroutines that hasn't ended has a step.
