@@ -16,7 +16,7 @@ use Rattle.argot_names_imports.specs.Found.IsFound.{folder as found_folder, libr
 use Rattle.argot_names_imports.specs.Surveyed.{IsSurvey}
 use Rattle.argot_names_imports.proofs.Lists.{list_none, list_same, get_below, get_there}
 use Rattle.argot_names_imports.proofs.Surveys.{owned, one_owner, first_owned, file_owned, finds_one}
-use Rattle.argot_names_imports.proofs.Reached.{reached_proper}
+use Rattle.argot_names_imports.proofs.ReachedFrom.{reached_proper}
 use Rattle.argot_names.specs.Paths.{library_paths}
 use Rattle.argot_names.specs.Naming.{is_library, IsNamedPath}
 

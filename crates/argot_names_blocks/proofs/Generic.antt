@@ -10,7 +10,7 @@ use Rattle.argot_tree.specs.declared.tree.TreeNode.{TreeNode}
 use Rattle.argot_names_rules.specs.Nodes.{Spans, HasChild, IsFirstChild}
 use Rattle.argot_names_rules.specs.Uses.{may_be_generic, IsInGeneric, HasDotImport}
 use Rattle.argot_names_rules.specs.Imports.{IsImport, dotted}
-use Rattle.argot_names_rules.specs.declared.alias.Alias.TheVariants.{QualifiedName}
+use Rattle.argot_names_rules.specs.declared.alias.Alias.TheVariants.{Dotted}
 use Rattle.argot_names_blocks.specs.declared.tables.Found.{Found}
 use Rattle.argot_names_blocks.specs.declared.roles.Role.{Role}
 use Rattle.argot_names_blocks.specs.declared.roles.Role.TheVariants as roles
@@ -124,7 +124,7 @@ pub dot_there : (ns : List TreeNode) (k : ℕ) → is_dot_of ns k ≡ true → H
 dot_there ns k e = go (slice_get ns k) refl e
   where
     by : (n : TreeNode) → slice_get ns k ≡ Some n → (role : Role) → role_of n.kind ≡ role → by_dot ns n role ≡ true → HasDotImport ns
-    by n f roles.QualifiedName r g =
+    by n f roles.DotImport r g =
         let path = path_role (found_at ns n.first) g in
         let is = found_there ns n.first path.0 path.1 in
         let child : IsFirstChild ns k path.0.at = record { is = n; there = f; first = is.link_is } in
@@ -144,7 +144,7 @@ dot_there ns k e = go (slice_get ns k) refl e
 abbrev node : {ns : List TreeNode} {k token last : ℕ} {kind : NodeKind} → Spans ns k kind token last → TreeNode
 node {token = token} {last = last} {kind = kind} s = record { kind = kind; token = token; last = last; first = s.first; next = s.next }
 
-dot_found : (ns : List TreeNode) (k at path : ℕ) → IsImport ns k at path QualifiedName → (is_dot_of ns k ≡ true) × (k < length ns)
+dot_found : (ns : List TreeNode) (k at path : ℕ) → IsImport ns k at path Dotted → (is_dot_of ns k ≡ true) × (k < length ns)
 dot_found ns k at path (dotted {child = child} is child_first child_is) =
     let same = some_is child_first.is (node is) (sym child_first.there ∙ is.there) in
     let first_is : is.first ≡ Some child = sym (λ i. (same i).first) ∙ child_first.first in (

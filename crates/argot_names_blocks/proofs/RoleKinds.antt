@@ -120,7 +120,7 @@ pub only_keyed : (kind : NodeKind) → role_of kind ≡ roles.Keyed → kind ≡
 only_keyed nodes.KeyedItem e = refl
 only_keyed kind e = absurd (cc)
 
-pub only_dotted : (kind : NodeKind) → role_of kind ≡ roles.QualifiedName → kind ≡ nodes.DotSpec
+pub only_dotted : (kind : NodeKind) → role_of kind ≡ roles.DotImport → kind ≡ nodes.DotSpec
 only_dotted nodes.DotSpec e = refl
 only_dotted kind e = absurd (cc)
 

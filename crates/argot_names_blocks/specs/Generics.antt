@@ -32,7 +32,7 @@ dot_at None = false
 dot_at (Some path) = by_path (role_of path.node.kind)
 
 abbrev pub by_dot : List TreeNode → TreeNode → Role → Bool
-by_dot tree node roles.QualifiedName = dot_at (found_at tree node.first)
+by_dot tree node roles.DotImport = dot_at (found_at tree node.first)
 by_dot tree node _ = false
 
 abbrev pub dot_of : List TreeNode → Option TreeNode → Bool

@@ -31,6 +31,6 @@ role_of nodes.QualifiedType = roles.Qualified
 role_of nodes.Selector = roles.Selector
 role_of nodes.SelectedName = roles.Selected
 role_of nodes.KeyedItem = roles.Keyed
-role_of nodes.DotSpec = roles.QualifiedName
+role_of nodes.DotSpec = roles.DotImport
 role_of nodes.ImportPath = roles.Path
 role_of _ = roles.Other

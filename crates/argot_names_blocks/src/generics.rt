@@ -113,7 +113,7 @@ fn is_dot(nodes: &[TreeNode], k: usize) -> bool
 {
     match nodes.get(k) {
         Some(node) => match role_of(node.kind) {
-            Role::QualifiedName => dot_at(found_at(nodes, linked(node.first))),
+            Role::DotImport => dot_at(found_at(nodes, linked(node.first))),
             _ => false,
         },
         None => false,

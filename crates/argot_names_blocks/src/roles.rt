@@ -44,7 +44,7 @@ pub enum Role {
     /// An item with a key.
     Keyed,
     /// An import under a dot.
-    QualifiedName,
+    DotImport,
     /// The text of an import's path.
     Path,
     Other,
@@ -76,7 +76,7 @@ pub fn role_of(kind: NodeKind) -> Role
         NodeKind::Selector => Role::Selector,
         NodeKind::SelectedName => Role::Selected,
         NodeKind::KeyedItem => Role::Keyed,
-        NodeKind::DotSpec => Role::QualifiedName,
+        NodeKind::DotSpec => Role::DotImport,
         NodeKind::ImportPath => Role::Path,
         _ => Role::Other,
     }

@@ -15,7 +15,7 @@ use Rattle.argot_names_rules.specs.Packages.{HasPath, IsFileOf, in_library}
 use Rattle.argot_names_rules.specs.declared.package_key.PackageKey.{PackageKey}
 use Rattle.argot_names_rules.specs.declared.package_key.PackageKey.TheVariants.{Library}
 use Rattle.argot_names_imports.specs.Surveyed.{IsProper, folder, library}
-use Rattle.argot_names_imports.proofs.Reached.{reached_proper}
+use Rattle.argot_names_imports.proofs.ReachedFrom.{reached_proper}
 use Rattle.argot_names_rules.specs.Agreeing.{is_go_file, is_assembly, is_numbered, library_path, PathBefore, IsRead, IsPassed, Agrees, HasLibrary}
 use Rattle.argot_names_imports.specs.Reads.{handed, bytes_at}
 use Rattle.argot_names_imports.proofs.Lists.{get_two, get_behind, get_before, get_below, get_there, get_map, map_get}

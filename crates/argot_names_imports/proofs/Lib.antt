@@ -12,7 +12,7 @@ pub mod Surveys
 pub mod AllImports
 pub mod FoundLists
 pub mod Graphs
-pub mod Reached
+pub mod ReachedFrom
 pub mod Positions
 pub mod Standing
 pub mod Numbering

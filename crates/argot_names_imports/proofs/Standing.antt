@@ -16,7 +16,7 @@ use Rattle.argot_names_imports.specs.Found.IsFound.{folder as found_folder, libr
 use Rattle.argot_names_imports.specs.Graph.{target_of}
 use Rattle.argot_names_imports.specs.Surveyed.{owner_of, IsOwned, IsSurvey}
 use Rattle.argot_names_imports.proofs.Surveys.{owned, one_owner, first_owned, file_owned, finds_one}
-use Rattle.argot_names_imports.proofs.Reached.{reached_proper}
+use Rattle.argot_names_imports.proofs.ReachedFrom.{reached_proper}
 use Rattle.argot_names_imports.specs.Reached.{home_of}
 
 some_is : {A : Type 0} (x y : A) → Some x ≡ Some y → x ≡ y

@@ -16,7 +16,7 @@ use Rattle.argot_names_imports.specs.Graph.{Leads, IsStep, Reaches, stay, onward
 use Rattle.argot_names_imports.specs.Surveyed.{IsProper, IsSurvey}
 use Rattle.argot_names_imports.proofs.Lists.{get_below, get_none, get_there}
 use Rattle.argot_names_imports.proofs.Surveys.{owned, one_owner, first_owned, file_owned, finds_proper}
-use Rattle.argot_names_imports.proofs.Reached.{edge_proper, reached_proper}
+use Rattle.argot_names_imports.proofs.ReachedFrom.{edge_proper, reached_proper}
 use Rattle.argot_names_imports.proofs.Standing.{first_is_one, reached_leader, target_is, is_target}
 use Rattle.argot_names_packages.specs.Spots.{spot_in, IsAt}
 use Rattle.argot_names_packages.specs.Ranks.{rank_of}

@@ -21,7 +21,7 @@ use Rattle.argot_names_imports.specs.declared.survey.Survey.{Survey}
 use Rattle.argot_names_imports.specs.Surveyed.{owner_by, IsOwned, IsSurvey}
 use Rattle.argot_names_imports.proofs.Lists.{get_below, get_map, map_get, list_same}
 use Rattle.argot_names_imports.proofs.Surveys.{owned, first_owned}
-use Rattle.argot_names_imports.proofs.Reached.{reached_proper}
+use Rattle.argot_names_imports.proofs.ReachedFrom.{reached_proper}
 use Rattle.argot_names_imports.specs.Reached.{home_of, IsReach}
 use Rattle.argot_names_imports.proofs.Standing.{first_is_one, reached_home, reached_leader, leader_reached}
 use Rattle.argot_names_packages.proofs.Seconds.{is_clause}

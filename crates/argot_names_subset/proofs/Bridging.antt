@@ -20,7 +20,7 @@ use Rattle.argot_names_rules.specs.Subset.{DeclaresType}
 use Rattle.argot_names_rules.specs.Subset.DeclaresType.{predeclared as type_predeclared, declared as type_declared}
 use Rattle.argot_names_imports.specs.Surveyed.{IsProper}
 use Rattle.argot_names_imports.proofs.Lists.{get_below, in_behind}
-use Rattle.argot_names_imports.proofs.Reached.{reached_proper}
+use Rattle.argot_names_imports.proofs.ReachedFrom.{reached_proper}
 use Rattle.argot_names_imports.proofs.Surveys.{owned, one_owner}
 use Rattle.argot_names_subset_file.specs.declared.standings.Standings.{Standings}
 use Rattle.argot_names_subset_file.specs.Standings.{IsTypeDecl, predeclared as decl_predeclared, declared as decl_declared, AreStandings}

@@ -11,7 +11,7 @@ use Rattle.argot_names_rules.specs.Imports.{IsReached, IsReachedFile}
 use Rattle.argot_names_rules.specs.Agreeing.{is_numbered, library_path, IsRead, Agrees}
 use Rattle.argot_names_imports.specs.Surveyed.{IsProper, library}
 use Rattle.argot_names_imports.proofs.Lists.{get_two, get_map, get_below, get_there, get_either}
-use Rattle.argot_names_imports.proofs.Reached.{reached_proper}
+use Rattle.argot_names_imports.proofs.ReachedFrom.{reached_proper}
 use Rattle.argot_names_scopes.specs.declared.file.FileNames.{FileNames}
 use Rattle.argot_names_imports.specs.declared.reached.Reached.{Reached}
 use Rattle.argot_names_imports.specs.Reached.{IsReach}

@@ -14,7 +14,7 @@ use Rattle.argot_names_blocks.specs.declared.tops.TopName.{TopName}
 use Rattle.argot_names_blocks.specs.Looking.{sort_of}
 use Rattle.argot_names_imports.proofs.Lists.{get_two, get_before, get_behind, get_below}
 use Rattle.argot_names_imports.proofs.Surveys.{owned, one_owner}
-use Rattle.argot_names_imports.proofs.Reached.{reached_proper}
+use Rattle.argot_names_imports.proofs.ReachedFrom.{reached_proper}
 use Rattle.argot_names_scopes.specs.declared.file.FileNames.{FileNames}
 use Rattle.argot_names_imports.specs.declared.reached.Reached.{Reached}
 use Rattle.argot_names_imports.specs.Reached.{homes_of, IsReach}

@@ -3,7 +3,7 @@ use Rattle.argot_names_imports.specs.Found.{HasTables}
 use Rattle.argot_names_imports.specs.Founds.{AreFounds}
 use Rattle.argot_names_imports.specs.Graph.{AreReached}
 use Rattle.argot_names_imports.specs.Reads.{handed}
-use Rattle.argot_names_imports.proofs.Reached.{survey_is, reached_same, leader_within, target_within, start_within}
+use Rattle.argot_names_imports.proofs.ReachedFrom.{survey_is, reached_same, leader_within, target_within, start_within}
 use Rattle.argot_names_imports.proofs.survey.surveyed.Goals as goal
 use Rattle.argot_names_imports.proofs.survey.surveyed.Goals.{After-deref-4, In_ok-reached}
 
