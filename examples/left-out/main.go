@@ -1,0 +1,11 @@
+package main
+
+func source() string { return "secret" }
+func sink(x string) {}
+
+func main() {
+	x := source()
+	goto end
+end:
+	sink(x)
+}
