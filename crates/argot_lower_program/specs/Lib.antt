@@ -1,0 +1,4 @@
+pub mod TypeTexts
+pub mod Functions
+pub mod Orders
+pub mod PlainCode

@@ -1,0 +1,1 @@
+// What the definitions on scripts mean: laws, each the contract of a function without code.
