@@ -5,3 +5,4 @@ pub mod Wordwise
 pub mod Grids
 pub mod Ascending
 pub mod Tables
+pub mod Running

@@ -6,3 +6,4 @@ pub mod Linked
 pub mod Pairs
 pub mod Grid
 pub mod Table
+pub mod Runs

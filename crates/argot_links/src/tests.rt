@@ -1,5 +1,5 @@
 // Each call once, on the values of its worked row, and a walk past an empty word.
-use crate::{Chains, Queue, Rows};
+use crate::{Chains, Queue, Rows, Runs};
 use std::test::Fail;
 
 #[test]
@@ -39,5 +39,15 @@ fn rows_add_and_join(rt: HostRuntime) -> Result<(), Fail> {
     assert_eq!(rt; walk.next(), None);
     rows.clear();
     assert_eq!(rt; rows.next_from(1, 0), None);
+    Ok(())
+}
+
+#[test]
+fn runs_keep_the_order_of_pairs(rt: HostRuntime) -> Result<(), Fail> {
+    let runs = Runs::of(rt.alloc(), 3, &[(2, 7), (0, 5), (2, 1), (2, 7)])?;
+    assert_eq!(rt; runs.len(), 3);
+    assert!(rt; runs.run(0).iter().copied().eq([5].iter().copied()));
+    assert!(rt; runs.run(1).is_empty());
+    assert!(rt; runs.run(2).iter().copied().eq([7, 1, 7].iter().copied()));
     Ok(())
 }
