@@ -2,7 +2,7 @@
 use Rattle.std.specs.Prelude.{◌≡◌, ℕ, ◌+◌, ◌<◌, Bool, true, List, length}
 use Rattle.argot_plain.specs.Code.{Code, IsAt, Hands, arguments}
 use Rattle.argot_plain.specs.Counts.{is_source, is_sink, is_source_place}
-use Rattle.argot_plain.specs.Nodes.{Mark, mark}
+use Rattle.argot_plain.specs.Nodes.{Mark, mark, IsNode}
 use Rattle.argot_plain.specs.declared.instructions.Callee.{Callee}
 use Rattle.argot_plain.specs.declared.instructions.Kind.{Kind}
 use Rattle.argot_plain.specs.declared.instructions.Kind.TheVariants.{Call}
@@ -16,11 +16,12 @@ use Rattle.argot_facts.specs.Reaching.{DefinedAt}
 use Rattle.argot_facts.specs.Refers.{Fact, Holds, Targets}
 use Rattle.argot_facts.specs.declared.nodes.Node.{Node}
 
--- by these facts a result node of the source place s: a Call of a source, or a place that the problem names
+-- by these facts a result node of the source place s: a Call of a source, or a place that the problem names and that has a result
+-- of index 0. A place without one is the source of nothing
 pub data IsSourceBy (p : Code) (F : Fact → Type 0) (pr : Problem) : ℕ → Mark → Type 0 where
   by_call : {s k : ℕ} {q : List PathStep} → (to args : List ℕ) → (callee : Callee) → (g : ℕ) → (takes : Bool)
       → IsAt p s (Call to callee args) → F (Targets s g takes) → is_source p pr s g ≡ true → k < length to → IsSourceBy p F pr s (mark s k q)
-  by_place : {s : ℕ} {q : List PathStep} → is_source_place pr s ≡ true → IsSourceBy p F pr s (mark s 0 q)
+  by_place : {s : ℕ} {q : List PathStep} → is_source_place pr s ≡ true → IsNode p (mark s 0 q) → IsSourceBy p F pr s (mark s 0 q)
 
 -- a node of the argument k of the sink place t
 pub data IsArgumentBy (p : Code) (F : Fact → Type 0) (pr : Problem) : ℕ → ℕ → Mark → Type 0 where

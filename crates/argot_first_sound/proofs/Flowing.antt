@@ -292,7 +292,7 @@ module _ (code : First.Code) where
       let same : few.Call t.to g t.args ≡ few.Call to c.0 args = some-same (sym t.is_at ∙ c.2) in
       let to-is : t.to ≡ to = cc same in
       record { source = one-function s g takes t f.function f.is First.is_source f.counted; place = refl; within = subst (λ (z : List ℕ). k < length z) (sym to-is) within }
-  source-back s m (by_place e) = absurd (false≢true e)
+  source-back s m (by_place e node) = absurd (false≢true e)
 
   pub record Ends (t k : ℕ) (m : Mark) : Type 0 where
     pub sink : First.Calls code First.is_sink t

@@ -120,8 +120,8 @@ abbrev pub stands_at : ℕ → List PathStep → Cell → Bool
 stands_at r q c = c.register == r && same_path c.leaf q
 
 -- what the register r holds at the leaf q
-abbrev pub held : ℕ → List PathStep → List Cell → List Content
-held r q cells = map (λ c. content_of c.atom) (filter (stands_at r q) cells)
+abbrev pub contents_at : ℕ → List PathStep → List Cell → List Content
+contents_at r q cells = map (λ c. content_of c.atom) (filter (stands_at r q) cells)
 
 abbrev pub or_zero : List Content → List Content
 or_zero [] = zero_content ∷ []
@@ -129,7 +129,7 @@ or_zero (x ∷ xs) = x ∷ xs
 
 -- the value of the register r at the leaf q
 abbrev pub value_at : ℕ → List PathStep → List Cell → List Content
-value_at r q cells = or_zero (held r q cells)
+value_at r q cells = or_zero (contents_at r q cells)
 
 -- the cells of other registers than these
 abbrev pub kept : List ℕ → List Cell → List Cell
@@ -162,9 +162,9 @@ to_params p l h takes n fn cells = filter_map (λ c. as_param p l h fn c (param_
 
 -- values that are handed back, by index, put into the registers to of the function g, as results numbered from k of the place i; a
 -- result that is handed nothing is zero, and what has no result is dropped
-abbrev pub returned : Code → Labelling → Change → ℕ → ℕ → ℕ → List ℕ → List Cell → List Cell
-returned p l f g i k [] cells = []
-returned p l f g i k (t ∷ ts) cells = copied l f k t i k (leaves p g t) cells ++ returned p l f g i (k + 1) ts cells
+abbrev pub handed_back : Code → Labelling → Change → ℕ → ℕ → ℕ → List ℕ → List Cell → List Cell
+handed_back p l f g i k [] cells = []
+handed_back p l f g i k (t ∷ ts) cells = copied l f k t i k (leaves p g t) cells ++ handed_back p l f g i (k + 1) ts cells
 
 -- whether a later part, which doesn't lie among elements, replaces what stands at q
 abbrev pub is_covered : List PathStep → List (List PathStep × ℕ) → Bool
@@ -206,10 +206,10 @@ abbrev pub stored : Object → List PathStep → List Slot → List Content
 stored o q slots = map (λ s. content_of s.atom) (filter (λ s. same_object s.object o && same_path s.path q) slots)
 
 -- what stands at q behind a reference
-abbrev pub found : Datum → List PathStep → List Slot → List Content
-found Scalar q slots = []
-found Nil q slots = []
-found (Ref o base) q slots = stored o (base ++ q) slots
+abbrev pub contents_behind : Datum → List PathStep → List Slot → List Content
+contents_behind Scalar q slots = []
+contents_behind Nil q slots = []
+contents_behind (Ref o base) q slots = stored o (base ++ q) slots
 
 -- what is carried, with further labels
 abbrev pub with_labels : List Mark → Content → Content
@@ -270,4 +270,4 @@ read_again l n x = content_of (put_atom l n x)
 -- the elements of the slice v, copied into the object o
 abbrev pub recopied : Code → Labelling → ℕ → Object → Datum → List (List PathStep) → List Slot → List Slot
 recopied p l i o v [] slots = []
-recopied p l i o v (q ∷ qs) slots = slots_at p l o (element [] q) (mark i 1 q) (map (read_again l (mark i 2 q)) (found v (Element ∷ q) slots)) ++ recopied p l i o v qs slots
+recopied p l i o v (q ∷ qs) slots = slots_at p l o (element [] q) (mark i 1 q) (map (read_again l (mark i 2 q)) (contents_behind v (Element ∷ q) slots)) ++ recopied p l i o v qs slots

@@ -3,7 +3,7 @@ use Rattle.std.specs.Prelude.{◌≡◌, ◌||◌, not, ℕ, List, [], ◌∷◌
 use Rattle.argot_plain.specs.Lists.{In, member, has_element}
 use Rattle.argot_plain.specs.Code.{Code, leaves}
 use Rattle.argot_plain.specs.Counts.{is_source_place}
-use Rattle.argot_plain.specs.Machine.{Labelling, Datum, Scalar, Ref, Content, content, zero_content, Cell, Slot, Change, same_labels, put_cell, held, or_zero, value_at, labels_of, copied, joined, stepped, found, with_labels, asserted}
+use Rattle.argot_plain.specs.Machine.{Labelling, Datum, Scalar, Ref, Content, content, zero_content, Cell, Slot, Change, same_labels, put_cell, contents_at, or_zero, value_at, labels_of, copied, joined, stepped, contents_behind, with_labels, asserted}
 use Rattle.argot_plain.specs.declared.functions.Ident.{Ident}
 use Rattle.argot_plain.specs.declared.instructions.Kind.{Kind}
 use Rattle.argot_plain.specs.declared.instructions.Kind.TheVariants.{Op, Move, Join, New, Step, Read, Global, Assert, Goto, Branch, Passed}
@@ -32,11 +32,11 @@ passed_labels l h n ls = if member h l.problem.validators then [] else ls
 -- what a Move may put at q: what stands below its path; where the path leads to elements and q doesn't, any one of these or zero
 abbrev pub MayMove : ℕ → List PathStep → List Cell → List PathStep → List Content → Type 0
 MayMove from path cells q xs =
-    Picks (not (has_element path) || has_element q) (value_at from (path ++ q) cells) (zero_content ∷ held from (path ++ q) cells) xs
+    Picks (not (has_element path) || has_element q) (value_at from (path ++ q) cells) (zero_content ∷ contents_at from (path ++ q) cells) xs
 
 -- what a Read may find at q behind the reference x: zero, or what stands there, with the labels of the reference
 abbrev pub readable : Content → List PathStep → List Slot → List Content
-readable x q slots = map (with_labels x.labels) (zero_content ∷ found x.value q slots)
+readable x q slots = map (with_labels x.labels) (zero_content ∷ contents_behind x.value q slots)
 
 -- where q leads to elements all of it, else any one
 abbrev pub MayRead : Content → List Slot → List PathStep → List Content → Type 0

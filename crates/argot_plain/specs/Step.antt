@@ -2,7 +2,7 @@
 use Rattle.std.specs.Prelude.{◌≡◌, ℕ, suc, ◌+◌, ◌==◌, length, List, [], ◌∷◌, ◌++◌, Some, None, slice_get, slice_set, Bool, true, false}
 use Rattle.argot_plain.specs.Lists.{In}
 use Rattle.argot_plain.specs.Code.{Code, IsAt, IsFunction, IsSiteOf, leaves, element_leaves, defined, Next, arguments, handed_values}
-use Rattle.argot_plain.specs.Machine.{Labelling, Ref, Content, content, Object, Cell, Slot, Target, Missing, Found, Deferred, Frame, View, State, put_cell, same_labels, value_at, kept, handed, to_params, returned, written, after_write, added, recopied}
+use Rattle.argot_plain.specs.Machine.{Labelling, Ref, Content, content, Object, Cell, Slot, Target, Missing, Found, Deferred, Frame, View, State, put_cell, same_labels, value_at, kept, handed, to_params, handed_back, written, after_write, added, recopied}
 use Rattle.argot_plain.specs.Outside.{Resolves, CarriesOn, ExternalGives, result_labels}
 use Rattle.argot_plain.specs.Nodes.{Mark}
 use Rattle.argot_plain.specs.Puts.{Gives, fresh_object}
@@ -32,8 +32,8 @@ abbrev pub with_records : Frame → List Deferred → Frame
 with_records f ds = record f { records = ds }
 
 -- a frame at the first place of the function h
-abbrev pub begins : ℕ → Function → List Cell → ℕ → Frame
-begins h fn cells site = record {
+abbrev pub first_frame : ℕ → Function → List Cell → ℕ → Frame
+first_frame h fn cells site = record {
   function = h;
   place = fn.entry;
   cells = cells;
@@ -61,16 +61,16 @@ leaving p l f from = handed p l f.function f.place 0 0 from f.cells
 -- the results that the Call at which e stands gets of the Leave at which f stands
 abbrev pub resulting : Code → Labelling → Frame → Frame → List ℕ → List ℕ → List Cell
 resulting p l f e to from =
-    returned p l (result_labels p l e.place f.function) e.function e.place 0 to (leaving p l f from)
+    handed_back p l (result_labels p l e.place f.function) e.function e.place 0 to (leaving p l f from)
 
 -- a frame of the function h for such a call
 abbrev pub entering : Code → Labelling → Frame → ℕ → Callee → List ℕ → ℕ → Bool → Function → Frame
 entering p l f n callee args h takes fn =
-    begins h fn (to_params p l h takes (length (arguments callee args)) fn (handing p l f n callee args)) f.place
+    first_frame h fn (to_params p l h takes (length (arguments callee args)) fn (handing p l f n callee args)) f.place
 
 -- a frame of the function h for a deferred call
 abbrev pub resuming : Code → Labelling → Deferred → ℕ → Bool → Function → Frame
-resuming p l d h takes fn = begins h fn (to_params p l h takes d.count fn d.cells) d.place
+resuming p l d h takes fn = first_frame h fn (to_params p l h takes d.count fn d.cells) d.place
 
 -- the record of the Defer at which the frame stands
 abbrev pub record_of : Code → Labelling → Frame → Callee → List ℕ → Target → Deferred
@@ -285,7 +285,7 @@ pub data OneStep (p : Code) (l : Labelling) : State → State → Type 0 where
 
 -- the state in which a run begins: one goroutine with one frame of the entry
 abbrev pub opening : Function → State
-opening fn = record { slots = []; fresh = 1; goroutines = (begins 0 fn [] 0 ∷ []) ∷ []; ended = false }
+opening fn = record { slots = []; fresh = 1; goroutines = (first_frame 0 fn [] 0 ∷ []) ∷ []; ended = false }
 
 -- a run of n steps, and the state that it leads to
 pub data Run (p : Code) (l : Labelling) : ℕ → State → Type 0 where

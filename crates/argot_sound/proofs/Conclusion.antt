@@ -73,7 +73,7 @@ module _ (p : Code) (pr : Problem) (wf : WellFormed p) where
 
   no_source : (s : ℕ) (m : Mark) → IsSource p (traced_back pr) s m → ⊥
   no_source s m (Flowing.by_call to args callee g takes at targets source within) = no_count (not (is_left_out p s)) (stands_for p g) source
-  no_source s m (Flowing.by_place e) = absurd cc
+  no_source s m (Flowing.by_place e node) = absurd cc
 
   begins_of : (begins : Mark → Bool) (s : Mark) → IsBegun p (traced pr begins) s → begins s ≡ true
   begins_of begins s (inl h) = absurd (no_source s.place s h)

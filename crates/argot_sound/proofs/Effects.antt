@@ -3,10 +3,10 @@ use Rattle.std.proofs.Common.{length, ◌≡◌, ℕ, Bool, false, List, [], ◌
 use Rattle.std.specs.Prelude.{◌⊎◌}
 use Rattle.argot_plain.specs.Lists.{In, here, there, member}
 use Rattle.argot_plain.specs.Code.{Code, IsAt, IsFunction, IsIn, by_call, by_go, by_defer, arguments, defined, element_leaves, leaves}
-use Rattle.argot_plain.specs.Machine.{Labelling, Object, Content, content, Cell, Slot, Frame, View, put_cell, same_labels, returned, written, added, recopied}
+use Rattle.argot_plain.specs.Machine.{Labelling, Object, Content, content, Cell, Slot, Frame, View, put_cell, same_labels, handed_back, written, added, recopied}
 use Rattle.argot_plain.specs.Outside.{result_labels}
 use Rattle.argot_plain.specs.Puts.{fresh_object}
-use Rattle.argot_plain.specs.Step.{view, Acts, act_puts, act_stores, act_stores_nothing, act_grows, act_grows_nothing, act_grows_anew, act_enters, act_calls_outside, act_starts, act_starts_outside, act_keeps, act_runs, act_runs_outside, act_runs_nothing, act_exits, act_leaves, act_leaves_deferred, act_ends, act_panics, act_drops, act_drops_last, goes_on, at_place, begins, panicking, with_records, handing, leaving, entering, resuming, record_of}
+use Rattle.argot_plain.specs.Step.{view, Acts, act_puts, act_stores, act_stores_nothing, act_grows, act_grows_nothing, act_grows_anew, act_enters, act_calls_outside, act_starts, act_starts_outside, act_keeps, act_runs, act_runs_outside, act_runs_nothing, act_exits, act_leaves, act_leaves_deferred, act_ends, act_panics, act_drops, act_drops_last, goes_on, at_place, first_frame, panicking, with_records, handing, leaving, entering, resuming, record_of}
 use Rattle.argot_plain.specs.WellFormed.{WellFormed}
 use Rattle.argot_plain.specs.declared.functions.Function.{Function}
 use Rattle.argot_plain.specs.declared.instructions.Kind.{Kind}
@@ -29,7 +29,7 @@ same_frame f regs given j = record { same = record { function = refl; site = ref
 moved_frame : (f : Frame) (j : ℕ) → IsSameFrame f (at_place f j)
 moved_frame f j = record { same = record { function = refl; site = refl; panics = refl }; records = refl }
 
-begins_at : (p : Code) (h : ℕ) (fn : Function) (cells : List Cell) (site : ℕ) → IsFunction p h fn → fn.external ≡ None → Begins p (begins h fn cells site) fn site
+begins_at : (p : Code) (h : ℕ) (fn : Function) (cells : List Cell) (site : ℕ) → IsFunction p h fn → fn.external ≡ None → Begins p (first_frame h fn cells site) fn site
 begins_at p h fn cells site is body = record { is = is; body = body; place = refl; site_is = refl; calm = refl; none = refl }
 
 module _ (p : Code) (wf : WellFormed p) (l : Labelling) (g : ℕ) where
@@ -113,9 +113,9 @@ module _ (p : Code) (wf : WellFormed p) (l : Labelling) (g : ℕ) where
       unwind {h = panicking (with_records f ds) fn} (record { fn = fn; is = isf; place = refl; function = refl; site = refl; records = λ x m. subst (In x) (sym records) (there m); cells = refl; panics = refl })
   effect {ss} {n} v (act_exits {f = f} j at calm records next) = put {h = at_place f j} RunDefers at calm next (moved_frame f j) (λ c k. inr (record { held = k; other = refl }))
   effect {ss} {n} v (act_leaves {f} {e} {rest} from to callee args j at calm site below next) =
-      leave {h = goes_on e to (returned p l (result_labels p l e.place f.function) e.function e.place 0 to (leaving p l f from)) j} from to args callee at calm site below next (same_frame e to _ j)
+      leave {h = goes_on e to (handed_back p l (result_labels p l e.place f.function) e.function e.place 0 to (leaving p l f from)) j} from to args callee at calm site below next (same_frame e to _ j)
       (leave_hands p wf l g ss f from v.0 at)
-      (λ c m. elim (In-append c (returned p l (result_labels p l e.place f.function) e.function e.place 0 to (leaving p l f from)) _ m) [
+      (λ c m. elim (In-append c (handed_back p l (result_labels p l e.place f.function) e.function e.place 0 to (leaving p l f from)) _ m) [
         | inl a ↦ inl (gives_back p wf l to args callee e.place e.function f.function (leaving p l f from) v.1.0 below c a)
         | inr b ↦ inr (let k = In-kept c to e.cells b in record { held = k.0; other = k.1 })
       ])

@@ -4,7 +4,7 @@ use Rattle.std.specs.Prelude.{◌⊎◌, slice_get, ◌||◌, not, if◌then◌e
 use Rattle.argot_plain.specs.Lists.{In, here, there, member, has_element}
 use Rattle.argot_plain.specs.Code.{Code, IsAt, IsIn, Hands, by_call, by_go, by_defer, defined, handed_values, node_registers, leaves}
 use Rattle.argot_plain.specs.Counts.{is_source_place}
-use Rattle.argot_plain.specs.Machine.{Labelling, Datum, Scalar, Nil, Ref, Object, Content, content_of, zero_content, Cell, Slot, Frame, own_label, put_cell, same_labels, held, value_at, labels_of, is_path_of, is_of_type, stepped, asserted, or_zero, joined}
+use Rattle.argot_plain.specs.Machine.{Labelling, Datum, Scalar, Nil, Ref, Object, Content, content_of, zero_content, Cell, Slot, Frame, own_label, put_cell, same_labels, contents_at, value_at, labels_of, is_path_of, is_of_type, stepped, asserted, or_zero, joined}
 use Rattle.argot_plain.specs.Nodes.{Mark, mark, IsNode, of_kind}
 use Rattle.argot_plain.specs.Puts.{Gives, MayMove, MayRead, place_labels, passed_labels, variable, readable}
 use Rattle.argot_plain.specs.WellFormed.{WellFormed, reference_registers}
@@ -143,12 +143,12 @@ module _ (p : Code) (wf : WellFormed p) (l : Labelling) where
         )
 
     moved_held : (from : ℕ) (path q : List PathStep) (xs : List Content) (x : Content) → MayMove from path f.cells q xs → In x xs → HeldAt from (path ++ q) f.cells x
-    moved_held from path q xs x ok m = elim (In-picks (not (has_element path) || has_element q) (value_at from (path ++ q) f.cells) (zero_content ∷ held from (path ++ q) f.cells) xs ok x m) [
+    moved_held from path q xs x ok m = elim (In-picks (not (has_element path) || has_element q) (value_at from (path ++ q) f.cells) (zero_content ∷ contents_at from (path ++ q) f.cells) xs ok x m) [
       | inl a ↦ In-value from (path ++ q) f.cells x a
       | inr b ↦ zero_or b
     ]
       where
-        zero_or : In x (zero_content ∷ held from (path ++ q) f.cells) → HeldAt from (path ++ q) f.cells x
+        zero_or : In x (zero_content ∷ contents_at from (path ++ q) f.cells) → HeldAt from (path ++ q) f.cells x
         zero_or (here e) = held_zero e
         zero_or (there i) = In-held from (path ++ q) f.cells x i
 

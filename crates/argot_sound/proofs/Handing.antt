@@ -5,7 +5,7 @@ use Rattle.std.proofs.lemmas.Option.{slice_get_within}
 use Rattle.argot_plain.specs.Lists.{In, here, there}
 use Rattle.argot_plain.specs.Code.{Code, IsAt, IsFunction, IsIn, IsSiteOf, Hands, handed_values, node_registers, arguments, element_leaves, leaves}
 use Rattle.argot_plain.specs.Counts.{is_source, cleans, counts}
-use Rattle.argot_plain.specs.Machine.{Labelling, Datum, Ref, Object, Content, content_of, Cell, Slot, Found, Frame, own_label, handed, to_params, returned, written, added, recopied, element, read_again}
+use Rattle.argot_plain.specs.Machine.{Labelling, Datum, Ref, Object, Content, content_of, Cell, Slot, Found, Frame, own_label, handed, to_params, handed_back, written, added, recopied, element, read_again}
 use Rattle.argot_plain.specs.Nodes.{Mark, mark, IsNode, of_items, of_elements, of_entry}
 use Rattle.argot_plain.specs.Outside.{Resolves, CarriesOn, ExternalGives, ExternalValue, fresh_one, no_reference, result_labels, SomeArgumentBears}
 use Rattle.argot_plain.specs.Step.{handing, leaving}
@@ -181,7 +181,7 @@ module _ (p : Code) (wf : WellFormed p) (l : Labelling) where
       })
 
   -- a result of a call
-  pub gives_back : (to args : List ℕ) (callee : Callee) (i e h : ℕ) (cells : List Cell) → IsIn p i e → IsAt p i (Call to callee args) → (c : Cell) → In c (returned p l (result_labels p l i h) e i 0 to cells) → GivesBack p l to i h cells c
+  pub gives_back : (to args : List ℕ) (callee : Callee) (i e h : ℕ) (cells : List Cell) → IsIn p i e → IsAt p i (Call to callee args) → (c : Cell) → In c (handed_back p l (result_labels p l i h) e i 0 to cells) → GivesBack p l to i h cells c
   gives_back to args callee i e h cells inside at c m =
       let a = In-returned p l (result_labels p l i h) e i 0 to cells c m in
       let b = a.copied in

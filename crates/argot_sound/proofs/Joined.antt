@@ -100,8 +100,8 @@ module _ (p : Code) (wf : WellFormed p) (l : Labelling) where
   begun_outside : (s : Mark) (i k : ℕ) (q : List PathStep) (to args : List ℕ) (callee : Callee) (h : ℕ) (takes : Bool) → IsAt p i (Call to callee args) → Holds p (Targets i h takes) → is_source p l.problem i h ≡ true → k < length to → s ≡ mark i k q → IsBegun p l s
   begun_outside s i k q to args callee h takes at targets source within e = subst (IsBegun p l) (sym e) (inl (Flowing.by_call to args callee h takes at targets source within))
 
-  begun_place : (s : Mark) (i k : ℕ) (q : List PathStep) → is_source_place l.problem i ≡ true → k ≡ 0 → s ≡ mark i k q → IsBegun p l s
-  begun_place s i k q source first e = subst (IsBegun p l) (sym (e ∙ ap (λ n. mark i n q) first)) (inl (Flowing.by_place source))
+  begun_place : (s : Mark) (i k : ℕ) (q : List PathStep) → is_source_place l.problem i ≡ true → k ≡ 0 → IsNode p (mark i k q) → s ≡ mark i k q → IsBegun p l s
+  begun_place s i k q source first node e = subst (IsBegun p l) (sym (e ∙ ap (λ n. mark i n q) first)) (inl (Flowing.by_place source (subst (λ n. IsNode p (mark i n q)) first node)))
 
   module _ (g : ℕ) where
     module _ (f : Frame) (rest : List Frame) (ss : List Slot) (kind : Kind) (d : FrameDefined p f rest) (v : FrameCovered p f rest) (w : FrameOwned p g f rest) (so : (x : Slot) → In x ss → SlotOwned p x)
@@ -218,7 +218,7 @@ module _ (p : Code) (wf : WellFormed p) (l : Labelling) where
             let is = subst (IsAt p f.place) c.is at in
             let targets = targets_of p wf g f rest (Call c.to c.callee c.args) c.callee c.args (length c.to) c.h c.takes d v w calm is by_call c.resolves in
             begins_here s (mark f.place k q) (call_sites f rest) (begun_outside s f.place k q c.to c.args c.callee c.h c.takes is targets source within e) e
-        label_carried k q s node (From.begins_place source first e) = begins_here s (mark f.place k q) (call_sites f rest) (begun_place s f.place k q source first e) e
+        label_carried k q s node (From.begins_place source first e) = begins_here s (mark f.place k q) (call_sites f rest) (begun_place s f.place k q source first node e) e
         label_carried k q s node (From.begins_there b e) = begins_here s (mark f.place k q) (call_sites f rest) (inr b) e
 
         label_puts : (c : Cell) → Puts p l kind g ss f c → (s : Mark) → In s c.atom.labels → IsJoinedWithin p l s (call_sites f rest) c.atom.put

@@ -5,7 +5,7 @@ use Rattle.argot_plain.specs.Lists.{In, here, there}
 use Rattle.argot_plain.specs.Code.{Code, IsAt, IsFunction}
 use Rattle.argot_plain.specs.WellFormed.{WellFormed}
 use Rattle.argot_plain.specs.Machine.{Labelling, Target, Missing, Found, Deferred, Frame, View, State}
-use Rattle.argot_plain.specs.Step.{act_panics, act_runs, act_runs_outside, act_runs_nothing, act_drops, act_drops_last, OneStep, one_step, Run, no_step, then_step, begins}
+use Rattle.argot_plain.specs.Step.{act_panics, act_runs, act_runs_outside, act_runs_nothing, act_drops, act_drops_last, OneStep, one_step, Run, no_step, then_step, first_frame}
 use Rattle.argot_plain.specs.declared.functions.Function.{Function}
 use Rattle.argot_plain.specs.declared.instructions.Kind.TheVariants.{RunDefers}
 use Rattle.argot_facts.specs.Refers.{Holds, Targets}
@@ -63,8 +63,8 @@ module _ (p : Code) (wf : WellFormed p) (l : Labelling) where
         | inr b ↦ elim b [ inl c ↦ x m fs c | inr c ↦ starts_exits g e fs c ]
       ]
 
-  opens_exits : (fn : Function) → (g : ℕ) (frames : List Frame) → slice_get ((begins 0 fn [] 0 ∷ []) ∷ []) g ≡ Some frames → EachFrame (StandsAtExit p) frames
-  opens_exits fn zero frames h = let e : begins 0 fn [] 0 ∷ [] ≡ frames = cc in subst (EachFrame (StandsAtExit p)) e (λ x. absurd cc, tt)
+  opens_exits : (fn : Function) → (g : ℕ) (frames : List Frame) → slice_get ((first_frame 0 fn [] 0 ∷ []) ∷ []) g ≡ Some frames → EachFrame (StandsAtExit p) frames
+  opens_exits fn zero frames h = let e : first_frame 0 fn [] 0 ∷ [] ≡ frames = cc in subst (EachFrame (StandsAtExit p)) e (λ x. absurd cc, tt)
   opens_exits fn (suc g) frames h = absurd cc
 
   run_exits : {n : ℕ} {x : State} → Run p l n x → AtExits x

@@ -4,7 +4,7 @@ use Rattle.std.proofs.lemmas.Bool.Decides.{nat_tests}
 use Rattle.std.specs.Prelude.{◌⊎◌, slice_get, ◌&&◌, nat_lt, if◌then◌else◌}
 use Rattle.argot_plain.specs.Lists.{In, here, there, member, same_path, has_path, below, has_many}
 use Rattle.argot_plain.specs.Code.{Code, leaves, param_of}
-use Rattle.argot_plain.specs.Machine.{Labelling, Datum, Scalar, Nil, Ref, Object, Content, content, content_of, zero_content, Cell, Slot, Change, same_labels, own_label, put_cell, stands_at, held, or_zero, value_at, kept, labels_of, copied, handed, as_param, to_params, returned, is_covered, part_value, joined, is_leaf_of, same_object, stored, found, with_labels, put_slot, slots_at, written, stands_among, after_write, element, added_item, added, read_again, recopied}
+use Rattle.argot_plain.specs.Machine.{Labelling, Datum, Scalar, Nil, Ref, Object, Content, content, content_of, zero_content, Cell, Slot, Change, same_labels, own_label, put_cell, stands_at, contents_at, or_zero, value_at, kept, labels_of, copied, handed, as_param, to_params, handed_back, is_covered, part_value, joined, is_leaf_of, same_object, stored, contents_behind, with_labels, put_slot, slots_at, written, stands_among, after_write, element, added_item, added, read_again, recopied}
 use Rattle.argot_plain.specs.Nodes.{Mark, mark}
 use Rattle.argot_plain.specs.Outside.{ExternalValue, MayGive, ExternalGives, no_more, one_more, result_labels}
 use Rattle.argot_plain.specs.Puts.{Fills, no_leaf, one_leaf, Picks, pick_all, pick_one, readable}
@@ -43,7 +43,7 @@ pub data HeldAt (r : ℕ) (q : List PathStep) (cells : List Cell) (x : Content) 
   held_by : (c : Cell) → In c cells → c.register ≡ r → c.leaf ≡ q → x ≡ content_of c.atom → HeldAt r q cells x
   held_zero : x ≡ zero_content → HeldAt r q cells x
 
-pub In-held : (r : ℕ) (q : List PathStep) (cells : List Cell) (x : Content) → In x (held r q cells) → HeldAt r q cells x
+pub In-held : (r : ℕ) (q : List PathStep) (cells : List Cell) (x : Content) → In x (contents_at r q cells) → HeldAt r q cells x
 In-held r q cells x h =
     let m = In-map (λ (c : Cell). content_of c.atom) x _ h in
     let t = In-filter (stands_at r q) m.0 cells m.1 in
@@ -55,7 +55,7 @@ In-or_zero x [] h = inr (In-one x zero_content h)
 In-or_zero x (y ∷ ys) h = inl h
 
 pub In-value : (r : ℕ) (q : List PathStep) (cells : List Cell) (x : Content) → In x (value_at r q cells) → HeldAt r q cells x
-In-value r q cells x h = elim (In-or_zero x (held r q cells) h) [ inl a ↦ In-held r q cells x a | inr b ↦ held_zero b ]
+In-value r q cells x h = elim (In-or_zero x (contents_at r q cells) h) [ inl a ↦ In-held r q cells x a | inr b ↦ held_zero b ]
 
 -- what is put at leaves of a register
 pub record CopiedAt (l : Labelling) (f : Change) (r to i k : ℕ) (qs : List (List PathStep)) (cells : List Cell) (c : Cell) : Type 0 where
@@ -129,8 +129,8 @@ pub record ReturnedAt (p : Code) (l : Labelling) (f : Change) (g i k : ℕ) (to 
   pub at : slice_get to number ≡ Some register
   pub copied : CopiedAt l f (k + number) register i (k + number) (leaves p g register) cells c
 
-returned_case : (p : Code) (l : Labelling) (f : Change) (g i k t : ℕ) (ts : List ℕ) (cells : List Cell) (c : Cell) → (In c (returned p l f g i (k + 1) ts cells) → ReturnedAt p l f g i (k + 1) ts cells c)
-    → In c (copied l f k t i k (leaves p g t) cells) ⊎ In c (returned p l f g i (k + 1) ts cells) → ReturnedAt p l f g i k (t ∷ ts) cells c
+returned_case : (p : Code) (l : Labelling) (f : Change) (g i k t : ℕ) (ts : List ℕ) (cells : List Cell) (c : Cell) → (In c (handed_back p l f g i (k + 1) ts cells) → ReturnedAt p l f g i (k + 1) ts cells c)
+    → In c (copied l f k t i k (leaves p g t) cells) ⊎ In c (handed_back p l f g i (k + 1) ts cells) → ReturnedAt p l f g i k (t ∷ ts) cells c
 returned_case p l f g i k t ts cells c rec (inl h) =
     let z : k ≡ k + 0 = omega arith in
     record { number = 0; register = t; at = refl; copied = subst (λ x. CopiedAt l f x t i x (leaves p g t) cells c) z (In-copied l f k t i k (leaves p g t) cells c h) }
@@ -139,7 +139,7 @@ returned_case p l f g i k t ts cells c rec (inr h) =
     let z : k + 1 + m.number ≡ k + suc m.number = omega arith in
     record { number = suc m.number; register = m.register; at = m.at; copied = subst (λ x. CopiedAt l f x m.register i x (leaves p g m.register) cells c) z m.copied }
 
-pub In-returned : (p : Code) (l : Labelling) (f : Change) (g i k : ℕ) (to : List ℕ) (cells : List Cell) (c : Cell) → In c (returned p l f g i k to cells) → ReturnedAt p l f g i k to cells c
+pub In-returned : (p : Code) (l : Labelling) (f : Change) (g i k : ℕ) (to : List ℕ) (cells : List Cell) (c : Cell) → In c (handed_back p l f g i k to cells) → ReturnedAt p l f g i k to cells c
 In-returned p l f g i k [] cells c h = elim h [ ]
 In-returned p l f g i k (t ∷ ts) cells c h = returned_case p l f g i k t ts cells c (In-returned p l f g i (k + 1) ts cells c) (In-append c _ _ h)
 
@@ -217,16 +217,16 @@ In-stored o q ss x h =
 pub data FoundAt (v : Datum) (q : List PathStep) (ss : List Slot) (x : Content) : Type 0 where
   found_at : (o : Object) → (base : List PathStep) → v ≡ Ref o base → StoredAt o (base ++ q) ss x → FoundAt v q ss x
 
-pub In-found : (v : Datum) (q : List PathStep) (ss : List Slot) (x : Content) → In x (found v q ss) → FoundAt v q ss x
+pub In-found : (v : Datum) (q : List PathStep) (ss : List Slot) (x : Content) → In x (contents_behind v q ss) → FoundAt v q ss x
 In-found Scalar q ss x h = elim h [ ]
 In-found Nil q ss x h = elim h [ ]
 In-found (Ref o base) q ss x h = found_at o base refl (In-stored o (base ++ q) ss x h)
 
 -- what a Read may find
 pub In-readable : (ref : Content) (q : List PathStep) (ss : List Slot) (x : Content) → In x (readable ref q ss) → (y : Content) × ((y ≡ zero_content) ⊎ FoundAt ref.value q ss y) × (x ≡ with_labels ref.labels y)
-In-readable ref q ss x h = let m = In-map (with_labels ref.labels) x (zero_content ∷ found ref.value q ss) h in readable_case m.0 m.1 m.2
+In-readable ref q ss x h = let m = In-map (with_labels ref.labels) x (zero_content ∷ contents_behind ref.value q ss) h in readable_case m.0 m.1 m.2
   where
-    readable_case : (y : Content) → In y (zero_content ∷ found ref.value q ss) → x ≡ with_labels ref.labels y → (y : Content) × ((y ≡ zero_content) ⊎ FoundAt ref.value q ss y) × (x ≡ with_labels ref.labels y)
+    readable_case : (y : Content) → In y (zero_content ∷ contents_behind ref.value q ss) → x ≡ with_labels ref.labels y → (y : Content) × ((y ≡ zero_content) ⊎ FoundAt ref.value q ss y) × (x ≡ with_labels ref.labels y)
     readable_case y (here e) is = (y, inl e, is)
     readable_case y (there m) is = (y, inr (In-found ref.value q ss y m), is)
 
@@ -296,10 +296,10 @@ pub record RecopiedAt (p : Code) (l : Labelling) (i : ℕ) (o : Object) (v : Dat
   pub is : s ≡ put_slot l o (element [] leaf) (mark i 1 leaf) (read_again l (mark i 2 leaf) what)
 
 recopied_case : (p : Code) (l : Labelling) (i : ℕ) (o : Object) (v : Datum) (q : List PathStep) (qs : List (List PathStep)) (ss : List Slot) (s : Slot) → (In s (recopied p l i o v qs ss) → RecopiedAt p l i o v qs ss s)
-    → In s (slots_at p l o (element [] q) (mark i 1 q) (map (read_again l (mark i 2 q)) (found v (Element ∷ q) ss))) ⊎ In s (recopied p l i o v qs ss) → RecopiedAt p l i o v (q ∷ qs) ss s
+    → In s (slots_at p l o (element [] q) (mark i 1 q) (map (read_again l (mark i 2 q)) (contents_behind v (Element ∷ q) ss))) ⊎ In s (recopied p l i o v qs ss) → RecopiedAt p l i o v (q ∷ qs) ss s
 recopied_case p l i o v q qs ss s rec (inl h) =
-    let t = In-slots_at p l o (element [] q) (mark i 1 q) (map (read_again l (mark i 2 q)) (found v (Element ∷ q) ss)) s h in
-    let m = In-map (read_again l (mark i 2 q)) t.what (found v (Element ∷ q) ss) t.among in
+    let t = In-slots_at p l o (element [] q) (mark i 1 q) (map (read_again l (mark i 2 q)) (contents_behind v (Element ∷ q) ss)) s h in
+    let m = In-map (read_again l (mark i 2 q)) t.what (contents_behind v (Element ∷ q) ss) t.among in
     record { leaf = q; among = here refl; is_leaf = t.is_leaf; what = m.0; found = In-found v (Element ∷ q) ss m.0 m.1; is = t.is ∙ ap (put_slot l o (element [] q) (mark i 1 q)) m.2 }
 recopied_case p l i o v q qs ss s rec (inr h) = let m = rec h in record { leaf = m.leaf; among = there m.among; is_leaf = m.is_leaf; what = m.what; found = m.found; is = m.is }
 

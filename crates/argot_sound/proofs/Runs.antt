@@ -6,7 +6,7 @@ use Rattle.argot_plain.specs.Code.{Code, IsFunction}
 use Rattle.argot_plain.specs.WellFormed.{WellFormed}
 use Rattle.argot_plain.specs.Machine.{Labelling, Cell, Slot, Frame, View, State}
 use Rattle.argot_plain.specs.Nodes.{Mark}
-use Rattle.argot_plain.specs.Step.{OneStep, one_step, Run, no_step, then_step, opening, view, begins}
+use Rattle.argot_plain.specs.Step.{OneStep, one_step, Run, no_step, then_step, opening, view, first_frame}
 use Rattle.argot_plain.specs.declared.functions.Function.{Function}
 use Rattle.argot_facts.specs.Escapes.{Escapes}
 use Rattle.argot_facts.specs.Refers.{entry_is_live}
@@ -76,11 +76,11 @@ module _ (p : Code) (wf : WellFormed p) (l : Labelling) where
       let inside = stand_inside p frames gl.covered in
       acts g s frames get (effect p wf l g inside a) laws (keeps_single p wf l g inside gl.single a) (starts_single p wf l g gl.single a) ended
 
-  none_in : (fn : Function) (c : Cell) {A : Type 0} → InFrame c (begins 0 fn [] 0) → A
+  none_in : (fn : Function) (c : Cell) {A : Type 0} → InFrame c (first_frame 0 fn [] 0) → A
   none_in fn c (in_register m) = elim m [ ]
   none_in fn c (in_record d m k) = elim m [ ]
 
-  opens_frames : (g : ℕ) (fn : Function) → IsFunction p 0 fn → GoroutineLaws p l g (begins 0 fn [] 0 ∷ [])
+  opens_frames : (g : ℕ) (fn : Function) → IsFunction p 0 fn → GoroutineLaws p l g (first_frame 0 fn [] 0 ∷ [])
   opens_frames g fn is =
       let a = wf.ranges.inside 0 fn is in
       let x : fn.entry ≤ fn.exit = a.0 in
@@ -104,8 +104,8 @@ module _ (p : Code) (wf : WellFormed p) (l : Labelling) where
         joined = (record { each = λ c m s i. none_in fn c m }, tt);
       }
 
-  opens_goroutine : (fn : Function) → IsFunction p 0 fn → (g : ℕ) (frames : List Frame) → slice_get ((begins 0 fn [] 0 ∷ []) ∷ []) g ≡ Some frames → GoroutineLaws p l g frames
-  opens_goroutine fn is zero frames h = let e : begins 0 fn [] 0 ∷ [] ≡ frames = cc in subst (GoroutineLaws p l 0) e (opens_frames 0 fn is)
+  opens_goroutine : (fn : Function) → IsFunction p 0 fn → (g : ℕ) (frames : List Frame) → slice_get ((first_frame 0 fn [] 0 ∷ []) ∷ []) g ≡ Some frames → GoroutineLaws p l g frames
+  opens_goroutine fn is zero frames h = let e : first_frame 0 fn [] 0 ∷ [] ≡ frames = cc in subst (GoroutineLaws p l 0) e (opens_frames 0 fn is)
   opens_goroutine fn is (suc g) frames h = absurd cc
 
   opens : (fn : Function) → IsFunction p 0 fn → Laws p l (opening fn)

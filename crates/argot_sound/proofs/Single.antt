@@ -6,11 +6,11 @@ use Rattle.argot_plain.specs.Lists.{In, here, there, IsDistinct, member, has_ele
 use Rattle.argot_plain.specs.Code.{Code, IsAt, IsIn, Hands, by_call, by_go, by_defer, found_by, handed_values, arguments, defined, leaves, param_of, Selects, GoesTo}
 use Rattle.argot_plain.specs.Code as Choosing
 use Rattle.argot_plain.specs.WellFormed.{WellFormed}
-use Rattle.argot_plain.specs.Machine.{Labelling, Datum, Ref, Object, Content, content, content_of, zero_content, Cell, Slot, Change, Found, Deferred, Frame, View, same_labels, put_cell, stands_at, held, or_zero, value_at, kept, copied, handed, to_params, returned, is_covered, part_value, joined}
+use Rattle.argot_plain.specs.Machine.{Labelling, Datum, Ref, Object, Content, content, content_of, zero_content, Cell, Slot, Change, Found, Deferred, Frame, View, same_labels, put_cell, stands_at, contents_at, or_zero, value_at, kept, copied, handed, to_params, handed_back, is_covered, part_value, joined}
 use Rattle.argot_plain.specs.Outside.{Names, GoesBy, goes_by_value, goes_by_method, Resolves, by_number, by_reference, MayGive, ExternalGives, no_more, one_more, result_labels}
 use Rattle.argot_plain.specs.Outside as Named
 use Rattle.argot_plain.specs.Puts.{Fills, no_leaf, one_leaf, Picks, pick_all, pick_one, MayMove, MayRead, readable, place_labels, passed_labels, Gives}
-use Rattle.argot_plain.specs.Step.{Acts, act_puts, act_stores, act_stores_nothing, act_grows, act_grows_nothing, act_grows_anew, act_enters, act_calls_outside, act_starts, act_starts_outside, act_keeps, act_runs, act_runs_outside, act_runs_nothing, act_exits, act_leaves, act_leaves_deferred, act_ends, act_panics, act_drops, act_drops_last, begins, gets, handing, leaving, record_of}
+use Rattle.argot_plain.specs.Step.{Acts, act_puts, act_stores, act_stores_nothing, act_grows, act_grows_nothing, act_grows_anew, act_enters, act_calls_outside, act_starts, act_starts_outside, act_keeps, act_runs, act_runs_outside, act_runs_nothing, act_exits, act_leaves, act_leaves_deferred, act_ends, act_panics, act_drops, act_drops_last, first_frame, gets, handing, leaving, record_of}
 use Rattle.argot_plain.specs.Nodes.{Mark}
 use Rattle.argot_plain.specs.declared.functions.Function.{Function}
 use Rattle.argot_plain.specs.declared.instructions.Callee.{Callee}
@@ -82,14 +82,14 @@ same_or_zero : (xs : List Content) → AllSame xs → AllSame (or_zero xs)
 same_or_zero [] h x y m n = same_one zero_content x y m n
 same_or_zero (z ∷ zs) h x y m n = h x y m n
 
-held_cell : (r : ℕ) (q : List PathStep) (cells : List Cell) (x : Content) → In x (held r q cells) → (c : Cell) × In c cells × (c.register ≡ r) × (c.leaf ≡ q) × (x ≡ content_of c.atom)
+held_cell : (r : ℕ) (q : List PathStep) (cells : List Cell) (x : Content) → In x (contents_at r q cells) → (c : Cell) × In c cells × (c.register ≡ r) × (c.leaf ≡ q) × (x ≡ content_of c.atom)
 held_cell r q cells x h =
     let m = In-map (λ (c : Cell). content_of c.atom) x _ h in
     let t = In-filter (stands_at r q) m.0 cells m.1 in
     let b = and_both _ _ t.1 in
     (m.0, t.0, same_number _ _ b.0, same_path_is _ _ b.1, m.2)
 
-held_same : (cells : List Cell) → IsSingle cells → (r : ℕ) (q : List PathStep) → has_element q ≡ false → AllSame (held r q cells)
+held_same : (cells : List Cell) → IsSingle cells → (r : ℕ) (q : List PathStep) → has_element q ≡ false → AllSame (contents_at r q cells)
 held_same cells s r q e x y m n =
     let a = held_cell r q cells x m in
     let b = held_cell r q cells y n in
@@ -97,7 +97,7 @@ held_same cells s r q e x y m n =
     a.4 ∙ ap (λ (c : Cell). content_of c.atom) same ∙ sym b.4
 
 pub value_same : (cells : List Cell) → IsSingle cells → (r : ℕ) (q : List PathStep) → has_element q ≡ false → AllSame (value_at r q cells)
-value_same cells s r q e = same_or_zero (held r q cells) (held_same cells s r q e)
+value_same cells s r q e = same_or_zero (contents_at r q cells) (held_same cells s r q e)
 
 picks_same : (many : Bool) (all one xs : List Content) → (many ≡ true → AllSame all) → Picks many all one xs → AllSame xs
 picks_same many all one xs h (pick_all e) = h e
@@ -244,7 +244,7 @@ module _ (p : Code) (wf : WellFormed p) (l : Labelling) where
         a.is ∙ put_is l same_labels a.number b.number fn.entry a.number b.number a.from.leaf b.from.leaf (content_of a.from.atom) (content_of b.from.atom) k k q (ap (λ (z : Cell). content_of z.atom) x) ∙ sym b.is;
   }
 
-  single_returned : (f : Change) (g i : ℕ) (to : List ℕ) (cells : List Cell) → IsDistinct to → IsSingle cells → IsSingle (returned p l f g i 0 to cells)
+  single_returned : (f : Change) (g i : ℕ) (to : List ℕ) (cells : List Cell) → IsDistinct to → IsSingle cells → IsSingle (handed_back p l f g i 0 to cells)
   single_returned f g i to cells once s = record {
     each = λ c d m o same leaf e.
         let a = In-returned p l f g i 0 to cells c m in
@@ -290,7 +290,7 @@ module _ (p : Code) (wf : WellFormed p) (l : Labelling) where
 
   -- what an instruction puts
   may_move_same : (from : ℕ) (path : List PathStep) (cells : List Cell) → IsSingle cells → (q : List PathStep) (xs : List Content) → has_element q ≡ false → MayMove from path cells q xs → AllSame xs
-  may_move_same from path cells s q xs e = picks_same (not (has_element path) || has_element q) (value_at from (path ++ q) cells) (zero_content ∷ held from (path ++ q) cells) xs
+  may_move_same from path cells s q xs e = picks_same (not (has_element path) || has_element q) (value_at from (path ++ q) cells) (zero_content ∷ contents_at from (path ++ q) cells) xs
       (λ t. value_same cells s from (path ++ q) (element_append path q (front_case (has_element path) (has_element q) e t) e))
     where
       front_case : (a b : Bool) → b ≡ false → (not a || b) ≡ true → a ≡ false
@@ -341,7 +341,7 @@ module _ (p : Code) (wf : WellFormed p) (l : Labelling) where
     records = s.records;
   }
 
-  begins_single : (h : ℕ) (fn : Function) (cells : List Cell) (site : ℕ) (rest : List Frame) → IsSingle cells → FrameSingle (begins h fn cells site) rest
+  begins_single : (h : ℕ) (fn : Function) (cells : List Cell) (site : ℕ) (rest : List Frame) → IsSingle cells → FrameSingle (first_frame h fn cells site) rest
   begins_single h fn cells site rest s = record { registers = s; records = λ d m. elim m [ ] }
 
   handing_single : (f : Frame) (rest : List Frame) (n : ℕ) (callee : Callee) (args : List ℕ) → FrameSingle f rest → IsSingle (handing p l f n callee args)
