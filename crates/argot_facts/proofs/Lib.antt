@@ -2,3 +2,9 @@ pub mod Listed
 pub mod Placed
 pub mod Marked
 pub mod Located
+pub mod Ordered
+pub mod Seconds
+pub mod Calls
+pub mod Rowed
+pub mod Handed
+pub mod Growing

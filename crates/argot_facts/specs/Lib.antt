@@ -13,4 +13,7 @@ pub mod Summaries
 pub mod Parents
 pub mod Traces
 pub mod Numbers
+pub mod Marked
+pub mod Pointing
 pub mod Exact
+pub mod Handed

@@ -7,6 +7,7 @@
 mod findings;
 mod graphs;
 pub mod laws;
+mod marks;
 mod nodes;
 mod pointing;
 mod sharing;
@@ -14,7 +15,8 @@ mod summaries;
 
 pub use findings::{EscapePair, Findings, Flow, Hop, HopKind, Origin, Trace};
 pub use graphs::{Edge, EdgeKind, Graph};
-pub use nodes::{Defs, Node};
-pub use pointing::{Loc, Points, Spot};
+pub use marks::{is_marked, mark};
+pub use nodes::{Defs, Node, Nodes};
+pub use pointing::{Loc, Points, PointsParts, Spot};
 pub use sharing::may_be_shared;
 pub use summaries::{Same, Summaries};

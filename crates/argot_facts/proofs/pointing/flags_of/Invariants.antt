@@ -1,0 +1,12 @@
+use Rattle.std.proofs.Common.{◌≡◌, ℕ, ◌<◌, Some, length}
+use Rattle.std.specs.Prelude.{slice_get}
+use Rattle.argot_plain.specs.Lists.{In}
+use Rattle.argot_facts.specs.Marked.{IsSet}
+use Rattle.argot_facts.proofs.pointing.flags_of.Given as goal
+
+abbrev pub invariant-loop-g : goal.invariant-loop-g
+invariant-loop-g l = record {
+  count : length l.flags.items ≡ l.functions;
+  only : (g : ℕ) → IsSet l.flags.items g → In g l.live;
+  there : (k g : ℕ) → k < l.g-index → slice_get l.live k ≡ Some g → IsSet l.flags.items g;
+}
