@@ -1,5 +1,5 @@
 // Folders and files, as a caller sees them.
-ghost use Rattle.std.specs.Prelude.{◌≡◌, List, ℕ, Option, IfOk, IfSome};
+ghost use Rattle.std.specs.Prelude.{◌≡◌, ◌≤◌, List, ℕ, Option, IfOk, IfSome};
 ghost use Rattle.argot_io.specs.Faults.{HasCause};
 ghost use Rattle.argot_io.specs.Told.{Entry, HasDistinctPaths, ListsTold, ReadsTold};
 ghost use Rattle.argot_io.specs.declared.files.FilesCall.{FilesCall};
@@ -40,7 +40,7 @@ pub trait Files {
     /// Each path and its bytes, where the files tell what they hold.
     ghost told: { Self → Option (List Entry) };
 
-    /// How often a call has failed. It never falls.
+    /// How often a call has failed. It never falls: at the last value of its type it stays.
     ghost faults: { Self → ℕ };
 
     /// The call that failed last.
@@ -51,6 +51,7 @@ pub trait Files {
         ensures told { told self.new ≡ told self.old }
         ensures distinct { IfSome (told self.old) HasDistinctPaths }
         ensures listed { IfOk result (λ texts. ListsTold (told self.old) dir.now texts) }
+        ensures rises { faults self.old ≤ faults self.new }
         ensures cause { HasCause result (faults self.old) (faults self.new) (last self.old) (last self.new) (FilesCall.Listing dir.now) };
 
     /// The bytes of the file at the path.
@@ -58,5 +59,6 @@ pub trait Files {
         ensures told { told self.new ≡ told self.old }
         ensures distinct { IfSome (told self.old) HasDistinctPaths }
         ensures bytes { IfOk result (λ bytes. ReadsTold (told self.old) path.now bytes.items) }
+        ensures rises { faults self.old ≤ faults self.new }
         ensures cause { HasCause result (faults self.old) (faults self.new) (last self.old) (last self.new) (FilesCall.Reading path.now) };
 }

@@ -1,5 +1,5 @@
 // Files in memory, which fail where they are told to.
-ghost use Rattle.std.specs.Prelude.{◌≡◌, ◌⊎◌, ◌↔◌, Contains, IsTrue, IfOk, IfSome, IsErrOf, IsOk, None, Some};
+ghost use Rattle.std.specs.Prelude.{◌≡◌, ◌≤◌, ◌⊎◌, ◌↔◌, Contains, IsTrue, IfOk, IfSome, IsErrOf, IsOk, None, Some};
 ghost use Rattle.argot_io.specs.Entries.{entries_of};
 ghost use Rattle.argot_io.specs.Faults.{HasCause};
 ghost use Rattle.argot_io.specs.Memory.{counted};
@@ -97,6 +97,7 @@ impl Files for MemFiles {
         ensures told { Some self.new.entries ≡ Some self.old.entries }
         ensures distinct { IfSome (Some self.old.entries) HasDistinctPaths }
         ensures listed { IfOk result (λ texts. ListsTold (Some self.old.entries) dir.now texts) }
+        ensures rises { self.old.faults ≤ self.new.faults }
         ensures cause { HasCause result self.old.faults self.new.faults self.old.last self.new.last (FilesCall.Listing dir.now) }
         ensures failing { self.new.failing ≡ self.old.failing }
         ensures calls { self.new.calls ≡ counted self.old.calls }
@@ -116,6 +117,7 @@ impl Files for MemFiles {
         ensures told { Some self.new.entries ≡ Some self.old.entries }
         ensures distinct { IfSome (Some self.old.entries) HasDistinctPaths }
         ensures bytes { IfOk result (λ bytes. ReadsTold (Some self.old.entries) path.now bytes.items) }
+        ensures rises { self.old.faults ≤ self.new.faults }
         ensures cause { HasCause result self.old.faults self.new.faults self.old.last self.new.last (FilesCall.Reading path.now) }
         ensures failing { self.new.failing ≡ self.old.failing }
         ensures calls { self.new.calls ≡ counted self.old.calls }

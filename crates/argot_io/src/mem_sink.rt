@@ -1,5 +1,5 @@
 // A sink in memory, which fails where it is told to.
-ghost use Rattle.std.specs.Prelude.{◌≡◌, ◌++◌, ◌<◌, ◌↔◌, [], Some, take, IfOk, OnErr, IsErr};
+ghost use Rattle.std.specs.Prelude.{◌≡◌, ◌++◌, ◌<◌, ◌≤◌, ◌↔◌, [], Some, take, IfOk, OnErr, IsErr};
 ghost use Rattle.argot_io.specs.Taken.{Writes};
 ghost use Rattle.argot_io.specs.Memory.{MustFail, bytes_taken, counted};
 
@@ -71,6 +71,7 @@ impl Sink for MemSink {
     ghost faults = { λ it. it.faults };
 
     fn write(&mut self, piece: &[u8]) -> Result<usize, SinkFault>
+        ensures rises { self.old.faults ≤ self.new.faults }
         ensures writes { Writes piece.now result self.old.faults self.new.faults (Some self.old.taken) (Some self.new.taken) }
         ensures failed { IsErr result ↔ MustFail self.old piece.now }
         ensures took { IfOk result (λ n. n ≡ bytes_taken self.old piece.now) }

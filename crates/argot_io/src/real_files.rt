@@ -1,5 +1,5 @@
 // The folders and files of the system. It is a trusted edge: nothing is said of what they hold.
-ghost use Rattle.std.specs.Prelude.{None};
+ghost use Rattle.std.specs.Prelude.{◌≤◌, None};
 ghost use Rattle.argot_io.specs.Faults.{HasCause};
 
 use crate::{Files, FilesCall, FilesFault};
@@ -16,7 +16,8 @@ const MOST_ENTRIES: u32 = 1_000_000;
 const MOST_BYTES: u64 = 1 << 26;
 
 /// The system's files. `list` walks folders without following links, and counts a fault past 1,000,000 entries or at
-/// a name that isn't UTF-8; `read` counts one past 64 MiB.
+/// a name that isn't UTF-8; `read` counts one past 64 MiB, and for what isn't a regular file, as a pipe, a device or a
+/// socket, also behind a link: such a one isn't opened, since that could wait.
 #[derive(Drop)]
 pub struct RealFiles<R: System + AllocGlobal + Drop> {
     rt: R,
@@ -36,7 +37,8 @@ impl<R: System + AllocGlobal + Drop> RealFiles<R> {
 
     // What the system answered, with its fault counted.
     fn answered<T: Drop>(&mut self, call: FilesCall, answer: IoResult<T>) -> Result<T, FilesFault>
-        ensures { HasCause result self.old.faults self.new.faults self.old.last self.new.last call }
+        ensures rises { self.old.faults ≤ self.new.faults }
+        ensures cause { HasCause result self.old.faults self.new.faults self.old.last self.new.last call }
     {
         match answer {
             Ok(found) => Ok(found),
@@ -70,8 +72,11 @@ impl<R: System + AllocGlobal + Drop> Files for RealFiles<R> {
     }
 }
 
-// The bytes of the file, if there aren't too many.
+// The bytes of the file, if it is a regular one and there aren't too many.
 fn whole_file<R: System>(rt: &R, alloc: Global, path: &str) -> IoResult<Vec<u8>> {
+    if !fs::metadata(rt, path)?.is_file() {
+        return Err(Error::from(ErrorKind::InvalidInput));
+    }
     let file = fs::open(rt, path)?;
     let mut bytes = Vec::new(alloc);
     file.take(MOST_BYTES + 1).read_to_end(&mut bytes)?;

@@ -112,6 +112,18 @@ fn real_folders_are_walked_and_files_read(rt: HostRuntime) -> Result<(), Fail> {
 }
 
 #[test]
+fn what_is_no_regular_file_is_a_fault_at_once(rt: HostRuntime) -> Result<(), Fail> {
+    let alloc = rt.alloc();
+    std::os::unix::fs::symlink(&rt, "/dev/zero", "zero")?;
+    let mut files = RealFiles::new(&rt);
+    for path in ["/dev/null", "zero", "."] {
+        assert_eq!(rt; files.read(alloc, path).err(), Some(FilesFault::Failed));
+    }
+    fs::remove_file(&rt, "zero")?;
+    Ok(())
+}
+
+#[test]
 fn a_stream_takes_bytes_or_counts_a_fault(rt: HostRuntime) -> Result<(), Fail> {
     fs::write(&rt, "taken", "")?;
     let mut sink = StdSink::new(fs::create(&rt, "taken")?);
