@@ -17,3 +17,7 @@ pub mod Marked
 pub mod Pointing
 pub mod Exact
 pub mod Handed
+pub mod Reached
+pub mod Summed
+pub mod Drawing
+pub mod OneProblem
