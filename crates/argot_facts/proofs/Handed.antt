@@ -1,5 +1,5 @@
 -- Tables that are exactly the program's have its own facts.
-use Rattle.std.proofs.Common.{◌≡◌, ℕ, ◌+◌, true, List, Some, ap, ◌∙◌, inl, inr, arith, subst}
+use Rattle.std.proofs.Common.{◌≡◌, ℕ, ◌+◌, true, List, Some, refl, ap, ◌∙◌, inl, inr, arith, subst}
 use Rattle.std.specs.Prelude.{slice_get, length}
 use Rattle.argot_links.specs.Table.{has}
 use Rattle.argot_plain.specs.Code.{Code}
@@ -9,7 +9,7 @@ use Rattle.argot_plain.specs.WellFormed.{WellFormed}
 use Rattle.argot_facts.specs.Exact.{ArePoints, SpotRefers, by_node, by_place, place_of}
 use Rattle.argot_facts.specs.Graphs.{IsMarked}
 use Rattle.argot_facts.specs.Handed.{FactsOf}
-use Rattle.argot_facts.specs.Numbers.{location}
+use Rattle.argot_facts.specs.Numbers.{node, location}
 use Rattle.argot_facts.specs.Pointing.{Pointing, of_nodes, of_places, refers, place_row}
 use Rattle.argot_facts.specs.Refers.{Location, Fact, Holds, IsLive, Targets, NodeRefers, PlaceRefers}
 use Rattle.argot_facts.specs.declared.nodes.Node.{Node}
@@ -19,6 +19,7 @@ use Rattle.argot_facts.specs.declared.pointing.Spot.TheVariants as spot
 use Rattle.argot_facts.proofs.Calls.{taken_once, target_taken}
 use Rattle.argot_facts.proofs.Listed.{In-append, In-left, In-right}
 use Rattle.argot_facts.proofs.Marked.{one_mark}
+use Rattle.argot_facts.proofs.Standing.{stands}
 use Rattle.argot_facts.proofs.Rowed.{IsIn, of_nodes_is, is_of_nodes, of_places_is, is_of_places}
 
 pub same_loc : (l m : Loc) → place_of l ≡ place_of m → l ≡ m
@@ -85,3 +86,20 @@ module _ (p : Code) (x : Pointing) (wf : WellFormed p) (exact : ArePoints p x) w
       let z = h.0 in let y = h.1 in let k = h.2 in let l = h.3 in
       let s = place_refers k.location l.location ((exact.refers (spot.Loc k.location) l.location).0 (in_place x k.location l.location z k.is (in_row x l.location y (place_row x z) l.is h.4))) in
       subst (λ a. Holds p (PlaceRefers a to)) k.same (subst (λ a. Holds p (PlaceRefers (place_of k.location) a)) l.same s)
+
+  -- what holds, the tables have
+  pub holds_facts : (f : Fact) → Holds p f → FactsOf p x f
+  holds_facts (IsLive g) h = (exact.live g).1 h
+  holds_facts (Targets i g takes) h = ((exact.targets.each i g).1 (takes, h), target_taken p wf h)
+  holds_facts (NodeRefers m to) h =
+      let s = stands p wf h in
+      let a : Node = node m.place m.index s.0.number in
+      let l : Loc = location to.site to.path in
+      let marked : IsMarked p a m = record { place = refl; index = refl; has = s.0.has } in
+      let r = node_in x a l ((exact.refers (spot.Node a) l).1 (by_node m marked h)) in
+      (r.0, r.2.column, record { node = a; is = r.1; marked = marked }, record { location = l; is = r.2.at; same = refl }, r.2.has)
+  holds_facts (PlaceRefers at to) h =
+      let k : Loc = location at.site at.path in
+      let l : Loc = location to.site to.path in
+      let r = place_in x k l ((exact.refers (spot.Loc k) l).1 (by_place h)) in
+      (r.0, r.2.column, record { location = k; is = r.1; same = refl }, record { location = l; is = r.2.at; same = refl }, r.2.has)

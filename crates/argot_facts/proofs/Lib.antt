@@ -8,3 +8,5 @@ pub mod Calls
 pub mod Rowed
 pub mod Handed
 pub mod Growing
+pub mod Leaves
+pub mod Standing

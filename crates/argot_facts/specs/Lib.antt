@@ -21,3 +21,4 @@ pub mod Reached
 pub mod Summed
 pub mod Drawing
 pub mod OneProblem
+pub mod Stands
