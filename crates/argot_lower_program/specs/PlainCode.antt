@@ -22,9 +22,16 @@ use Rattle.argot_lower_rows.specs.Table.{row}
 use Rattle.argot_lower_program.specs.Functions.{Origin, WrapperOf, number_in, function_position, printed_name, script_of, root_node, param_count, result_count, role_of, ident, has_reference, wrapped, flow_of, main_anchor}
 use Rattle.argot_lower_program.specs.Orders.{IsOrder}
 
--- where a function ends: behind its Leave; its exit is the place of its RunDefers. A function without a body has one place
+-- the one place of a function at which RunDefers stands
+pub record IsExit (code : Code) (fn : Function) : Type 0 where
+  pub low : fn.entry ≤ fn.exit
+  pub high : fn.exit < fn.leave
+  pub is : IsAt code fn.exit RunDefers
+  pub only : (i : ℕ) → fn.entry ≤ i → i ≤ fn.leave → IsAt code i RunDefers → i ≡ fn.exit
+
+-- where a function ends: behind its Leave. A function without a body has one place
 pub data IsClosed (code : Code) (fn : Function) (end : ℕ) : Option Bool → Type 0 where
-  with_body : end ≡ fn.leave + 1 → fn.entry ≤ fn.exit → fn.exit < fn.leave → IsAt code fn.exit RunDefers → IsClosed code fn end None
+  with_body : end ≡ fn.leave + 1 → IsExit code fn → IsClosed code fn end None
   without : {flow : Bool} → end ≡ fn.entry + 1 → fn.exit ≡ fn.entry → fn.leave ≡ fn.entry → IsClosed code fn end (Some flow)
 
 -- the function of this number is the one that is made from this, and its code reaches from one place up to another

@@ -1,6 +1,6 @@
 -- Places that are assigned: their operands, loads and stores.
 use Rattle.std.specs.Prelude.{ℕ, zero, suc, Bool, false, List, [], ◌∷◌, ◌++◌, codes, map, Option, Some, None, bytes_eq, if◌then◌else◌}
-use Rattle.argot_plain.specs.declared.instructions.Kind.TheVariants.{Move, Join, Write, Global}
+use Rattle.argot_plain.specs.declared.instructions.Kind.TheVariants as kinds
 use Rattle.argot_text.specs.declared.path.PathStep.{PathStep}
 use Rattle.argot_text.specs.declared.path.PathStep.TheVariants.{Field, Key, Value}
 use Rattle.argot_text.specs.declared.position.Pos.{Pos}
@@ -28,7 +28,7 @@ pub data Place : Type 0 where
 
 -- the value of a node below, moved to a register of its own: a = value e; r := Move a, at e as it is written
 abbrev pub temporary : Typed → ℕ → (ℕ → Script) → Script
-temporary t n k = value n (λ a. plain (written t n) (leaves_at t n) (λ r. Move r a []) k)
+temporary t n k = value n (λ a. plain (written t n) (leaves_at t n) (λ r. kinds.Move r a []) k)
 
 abbrev pub is_held_among : List ℕ → Option ℕ → Bool
 is_held_among among None = false
@@ -45,7 +45,7 @@ declare_local t p d k =
     else take (decl_leaves t d) (λ r. sets d r (k (Whole r)))
 
 abbrev pub declare_by : Typed → Pos → ℕ → Meaning → (Place → Script) → Script
-declare_by t p d (Global g) k = one p (λ r. Global r (global_number t d)) (λ r. k (Through r))
+declare_by t p d (Global g) k = one p (λ r. kinds.Global r (global_number t d)) (λ r. k (Through r))
 declare_by t p d _ k = declare_local t p d k
 
 abbrev pub declare : Typed → Pos → ℕ → (Place → Script) → Script
@@ -118,9 +118,9 @@ wanted_by t n _ = AsType (value_type t n)
 -- a converted value into a place
 abbrev pub put_to : Pos → Place → ℕ → Script → Script
 put_to p Blank a c = c
-put_to p (Whole r) a c = does p (Move r a []) c
-put_to p (Below r path) a c = does p (Join r (([], r) ∷ (path, a) ∷ [])) c
-put_to p (Through q) a c = does p (Write q a) c
+put_to p (Whole r) a c = does p (kinds.Move r a []) c
+put_to p (Below r path) a c = does p (kinds.Join r (([], r) ∷ (path, a) ∷ [])) c
+put_to p (Through q) a c = does p (kinds.Write q a) c
 put_to p (Entry m k) a c = put_at p m Key k (put_at p m Value a c)
 
 -- a value of the type v into the place of an operand, converted at a place of the text
@@ -136,6 +136,6 @@ stores t _ _ _ c = c
 abbrev pub load : Typed → ℕ → Place → (ℕ → Script) → Script
 load t n Blank k = k 0
 load t n (Whole r) k = k r
-load t n (Below r path) k = make (at t n) (leaves_at t n) (tags t n) (λ o. Move o r path) k
+load t n (Below r path) k = make (at t n) (leaves_at t n) (tags t n) (λ o. kinds.Move o r path) k
 load t n (Through q) k = loaded (at t n) (leaves_at t n) (tags t n) q k
 load t n (Entry m k) c = load_at (at t n) (leaves_at t n) m Value c

@@ -1,3 +1,4 @@
 pub mod Script
 pub mod Words
 pub mod Says
+pub mod Agrees
