@@ -1,0 +1,4 @@
+pub mod Rules
+pub mod Needs
+pub mod Tables
+pub mod Laws

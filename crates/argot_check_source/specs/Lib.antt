@@ -1,0 +1,9 @@
+pub mod Code
+pub mod Names
+pub mod LiteralValues
+pub mod Functions
+pub mod Constants
+pub mod Jumps
+pub mod Terminating
+pub mod Methods
+pub mod Laws

@@ -1,0 +1,11 @@
+pub mod Types
+pub mod Identity
+pub mod Constants
+pub mod Facts
+pub mod Known
+pub mod Members
+pub mod Assignable
+pub mod Comparable
+pub mod Convertible
+pub mod Tables
+pub mod Laws

@@ -1,0 +1,13 @@
+pub mod Positions
+pub mod Meanings
+pub mod Literals
+pub mod Types
+pub mod Bindings
+pub mod Expressions
+pub mod Statements
+pub mod Rules
+pub mod Late
+pub mod Loops
+pub mod Faults
+pub mod Answer
+pub mod Laws
