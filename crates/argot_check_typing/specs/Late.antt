@@ -1,12 +1,12 @@
 -- Conditions that are looked at when all is typed. A node that fails one keeps its type: `type K struct { m *map[K]int }` and
 -- `type N struct { *N }` are right, though each needs itself to tell.
-use Rattle.std.specs.Prelude.{◌≡◌, ℕ, Bool, true, false, List, Option, Some, None}
+use Rattle.std.specs.Prelude.{◌≡◌, ℕ, Bool, true, false, Some, None}
 use Rattle.std.specs.List.{Contains}
 use Rattle.argot_tree.specs.declared.node_kind.NodeKind.{NodeKind}
 use Rattle.argot_tree.specs.declared.node_kind.NodeKind.TheVariants as nodes
 use Rattle.argot_check_asking.specs.Rules.{Say}
 use Rattle.argot_check_asking.specs.Needs.{Chain}
-use Rattle.argot_check_types.specs.Types.{Ty, mapping, structure, pointer, interface, field, behind_pointer, is_pointer, has_name}
+use Rattle.argot_check_types.specs.Types.{Ty, mapping, structure, pointer, interface, has_name}
 use Rattle.argot_check_types.specs.Facts.{kind, comparable}
 use Rattle.argot_check_types.specs.Comparable.{held_in}
 use Rattle.argot_check_rules.specs.Rows.{At}
