@@ -1,0 +1,101 @@
+-- The code of the functions, step by step.
+use Rattle.std.specs.Prelude.{[], ◌∷◌, ◌++◌, refl, replicate}
+use Rattle.std.specs.Fmt.{digits}
+use Rattle.argot_typed.specs.Leaves.{leaves_of}
+use Rattle.argot_lower_scripts.specs.Says.{says_done, says_take, says_emit, says_now, says_until, says_part, says_site, says_sets, says_gets}
+use Rattle.argot_lower_program.specs.Functions.{OfEntry, OfText, OfBuiltIn}
+use Rattle.argot_lower_worked.specs.Words.{point}
+use Rattle.argot_lower_worked.specs.DeferredCall.{IsSaid, IsLowered, IsNamed, function_1, function_2, function_3}
+
+said_0 : IsSaid 0 (OfEntry) [] (point 0 0 0 0 0 (replicate 47 0 ++ [])) (point 5 3 0 0 0 (replicate 47 0 ++ []))
+unfolding leaves_of
+said_0 = says_until {qs = []} {d = point 1 1 0 0 0 (replicate 47 0 ++ [])}
+    (says_emit (record { is = refl })
+    (says_done)) (record { is = refl })
+    (says_now (record { is = refl })
+    (says_until {qs = []} {d = point 2 3 0 0 0 (replicate 47 0 ++ [])}
+    (says_emit (record { is = refl })
+    (says_done)) (record { is = refl })
+    (says_emit (record { is = refl })
+    (says_emit (record { is = refl })
+    (says_emit (record { is = refl })
+    (says_done))))))
+
+said_1 : IsSaid 1 (OfText 2) [] (point 5 3 0 0 0 (replicate 47 0 ++ [])) (point 16 5 5 3 0 (replicate 47 0 ++ []))
+unfolding leaves_of
+said_1 = says_until {qs = []} {d = point 6 4 0 0 0 (replicate 47 0 ++ [])}
+    (says_emit (record { is = refl })
+    (says_done)) (record { is = refl })
+    (says_take (record { fn = function_1; is = refl; has = refl })
+    (says_site (record { is = refl })
+    (says_emit (record { is = refl })
+    (says_sets
+    (says_until {qs = []} {d = point 13 5 4 3 0 (replicate 47 0 ++ [])}
+    (says_part {qs = []} {d = point 13 5 4 3 0 (replicate 47 0 ++ [])} refl
+    (says_part {qs = []} {d = point 10 5 3 3 0 (replicate 47 0 ++ [])} refl
+    (says_take (record { fn = function_1; is = refl; has = refl })
+    (says_site (record { is = refl })
+    (says_emit (record { is = refl })
+    (says_part {qs = (2 ∷ [])} {d = point 9 5 3 3 0 (replicate 47 0 ++ [])} refl
+    (says_take (record { fn = function_1; is = refl; has = refl })
+    (says_site (record { is = refl })
+    (says_emit (record { is = refl })
+    (says_done))))
+    (says_emit (record { is = refl })
+    (says_done))))))
+    (says_part {qs = []} {d = point 12 5 4 3 0 (replicate 47 0 ++ [])} refl
+    (says_part {qs = (0 ∷ [])} {d = point 10 5 3 3 0 (replicate 47 0 ++ [])} refl
+    (says_gets
+    (says_done))
+    (says_part {qs = (3 ∷ [])} {d = point 11 5 4 3 0 (replicate 47 0 ++ [])} refl
+    (says_take (record { fn = function_1; is = refl; has = refl })
+    (says_emit (record { is = refl })
+    (says_done)))
+    (says_emit (record { is = refl })
+    (says_done))))
+    (says_part {qs = []} {d = point 13 5 4 3 0 (replicate 47 0 ++ [])} refl
+    (says_emit (record { is = refl })
+    (says_done))
+    (says_done))))
+    (says_done)) (record { is = refl })
+    (says_emit (record { is = refl })
+    (says_take (record { fn = function_1; is = refl; has = refl })
+    (says_emit (record { is = refl })
+    (says_emit (record { is = refl })
+    (says_done))))))))))
+
+said_2 : IsSaid 2 (OfBuiltIn 12) [] (point 16 5 0 3 0 (replicate 47 0 ++ [])) (point 19 6 1 3 0 (replicate 47 0 ++ []))
+unfolding leaves_of
+said_2 = says_until {qs = []} {d = point 17 6 0 3 0 (replicate 47 0 ++ [])}
+    (says_emit (record { is = refl })
+    (says_done)) (record { is = refl })
+    (says_take (record { fn = function_2; is = refl; has = refl })
+    (says_emit (record { is = refl })
+    (says_emit (record { is = refl })
+    (says_done))))
+
+said_3 : IsSaid 3 (OfText 24) [] (point 19 6 0 3 0 (replicate 47 0 ++ [])) (point 23 8 1 3 0 (replicate 47 0 ++ []))
+unfolding leaves_of
+said_3 = says_until {qs = []} {d = point 20 7 0 3 0 (replicate 47 0 ++ [])}
+    (says_emit (record { is = refl })
+    (says_done)) (record { is = refl })
+    (says_until {qs = []} {d = point 21 8 1 3 0 (replicate 47 0 ++ [])}
+    (says_part {qs = []} {d = point 21 8 1 3 0 (replicate 47 0 ++ [])} refl
+    (says_part {qs = []} {d = point 21 8 1 3 0 (replicate 47 0 ++ [])} refl
+    (says_part {qs = (0 ∷ [])} {d = point 21 8 1 3 0 (replicate 47 0 ++ [])} refl
+    (says_take (record { fn = function_3; is = refl; has = refl })
+    (says_emit (record { is = refl })
+    (says_done)))
+    (says_done))
+    (says_done))
+    (says_done)) (record { is = refl })
+    (says_emit (record { is = refl })
+    (says_emit (record { is = refl })
+    (says_done))))
+
+pub lowered : IsLowered
+lowered = (said_0, said_1, said_2, said_3)
+
+pub named : IsNamed
+unfolding digits
+named = (refl, refl, refl, refl)

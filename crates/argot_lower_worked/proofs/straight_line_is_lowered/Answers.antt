@@ -1,0 +1,8 @@
+use Rattle.argot_lower_worked.proofs.StraightLineCode.{lowered, named}
+use Rattle.argot_lower_worked.proofs.straight_line_is_lowered.Goals as goal
+
+pub returns-clause-code : goal.returns-clause-code
+returns-clause-code c = lowered
+
+pub returns-clause-names : goal.returns-clause-names
+returns-clause-names c = named
