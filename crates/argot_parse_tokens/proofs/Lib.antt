@@ -1,1 +1,4 @@
 pub mod NameLaws
+pub mod RowLaws
+pub mod OperatorLaws
+pub mod UnaryLaws
