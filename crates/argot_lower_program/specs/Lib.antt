@@ -2,3 +2,4 @@ pub mod TypeTexts
 pub mod Functions
 pub mod Orders
 pub mod PlainCode
+pub mod Same
