@@ -32,9 +32,10 @@ abbrev pub are_distinct_cases : List Case → Bool
 are_distinct_cases [] = true
 are_distinct_cases (c ∷ cs) = not (is_case_among c cs) && are_distinct_cases cs
 
--- an untyped case counts with the value's type where that is one of whole numbers, else with its default type
+-- an untyped case counts with the value's type where that is one of whole numbers, else with its default type; an untyped value counts
+-- with its own default type there
 abbrev pub case_type : Ty → Bool → Ty → Ty
-case_type (untyped b) true t = t
+case_type (untyped b) true t = default_type t
 case_type (untyped b) false t = default_type (untyped b)
 case_type u w t = u
 

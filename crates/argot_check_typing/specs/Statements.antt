@@ -13,7 +13,7 @@ use Rattle.argot_check_rules.specs.Switches.{switch_rule, type_switch_rule}
 use Rattle.argot_check_rules.specs.Range.{range_rule, define_range_rule, assign_range_rule}
 use Rattle.argot_check_rules.specs.Return.{return_rule}
 use Rattle.argot_check_rules.specs.Labels.{jump_rule}
-use Rattle.argot_check_source.specs.Code.{Code, kind_at, children, is_of, child_of, all_of, head_of, text_of, stripped, is_names, is_exprs, is_name_use, is_clause, is_default}
+use Rattle.argot_check_source.specs.Code.{Code, kind_at, children, is_of, child_of, all_of, head_of, text_of, stripped, is_names, is_name_use, is_clause, is_default}
 use Rattle.argot_check_source.specs.Names.{is_text}
 use Rattle.argot_check_source.specs.Functions.{signature_of, body_of, receiver_of, function_around, has_named_results, names_of_function, texts_of}
 use Rattle.argot_check_source.specs.Constants.{values_of, written_of, list_of}
@@ -218,7 +218,7 @@ shape_of c n = elim (kind_at c n) [ None ↦ IsOther | Some kind ↦ shape_by c 
 
 abbrev pub return_in : Setting → Code → ℕ → Option ℕ → Rule
 return_in s c n None = Silent
-return_in s c n (Some signature) = return_rule s (At signature) (has_named_results c signature) (own_rows (values_in c (child_of c is_exprs n)))
+return_in s c n (Some signature) = return_rule s (At signature) (has_named_results c signature) (own_rows (children c n))
 
 abbrev pub return_at : Setting → Code → ℕ → Rule
 return_at s c n = elim (function_around c n) [ None ↦ Silent | Some f ↦ return_in s c n (signature_of c f) ]
