@@ -1,3 +1,4 @@
 pub mod FrontLaws
 pub mod ChainLaws
 pub mod AloneLaws
+pub mod TypeLaws

@@ -1,5 +1,5 @@
 -- The parts that are read by themselves, and what it says that none was.
-use Rattle.std.specs.Prelude.{ℕ, true, List}
+use Rattle.std.specs.Prelude.{ℕ, ◌≤◌, true, List}
 use Rattle.argot_tree.specs.declared.token.Token.{Token}
 use Rattle.argot_tree.specs.Grammar as grammar
 use Rattle.argot_tree.specs.Trees.{BeginsNoPart}
@@ -27,3 +27,9 @@ abbrev pub IsNoPart : List Token → grammar.Part → ℕ → ParseFault → Typ
 IsNoPart tokens part at (faults.Syntax token) = BeginsNoPart tokens part at
 IsNoPart tokens part at (faults.TooDeep token) = ⊥
 IsNoPart tokens part at faults.Memory = Unit {0}
+
+-- the token that a fault of syntax names is one of so many, or their number
+abbrev pub NamesUpTo : ℕ → ParseFault → Type 0
+NamesUpTo count (faults.Syntax token) = token ≤ count
+NamesUpTo count (faults.TooDeep token) = Unit {0}
+NamesUpTo count faults.Memory = Unit {0}

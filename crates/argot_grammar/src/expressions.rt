@@ -10,7 +10,8 @@ ghost use Rattle.argot_parse_reader.specs.Reader.{read};
 use crate::operands::operand;
 use crate::suffixes::suffixes;
 use argot_parse_tokens::{
-    Writer, close, goes_on, is_mark, level_at, recast, typed, unary_at, undo,
+    Operators, Writer, close, close_operators, goes_on, is_mark, level_at, operators_at, stays,
+    typed, undo,
 };
 use argot_text::Memory;
 use argot_tree::{Mark, NodeKind, Token};
@@ -103,7 +104,8 @@ fn climb(
     Ok(at)
 }
 
-// An operand with what stands before it, or a type where `types`.
+// An operand with the operators before it, or a type where `types`. They are counted, and put over the operand when it is
+// read, so that no call is as deep as they are many.
 #[cycle(reading)]
 fn unary(
     tokens: &[Token],
@@ -115,39 +117,36 @@ fn unary(
 ) -> Result<Option<usize>, Memory>
     ensures { IfOk result (λ r. Gives out.old.posts.items r out.new.posts.items (read tokens.now fuel (UnaryOr types bare) at out.old.posts.items)) }
 {
-    if fuel == 0 {
-        return Ok(None);
-    }
     let mark = out.posts.len();
-    if is_mark(tokens, at, Mark::Star) {
-        let Some(to) = unary(tokens, out, fuel - 1, types, bare, at + 1)? else {
-            return Ok(None);
-        };
-        if types && typed(&out.posts) {
-            close(out, NodeKind::PointerType, at, to, mark)?;
-            return Ok(Some(to));
-        }
-        close(out, NodeKind::Deref, at, to, mark)?;
-        return Ok(Some(to));
+    let outer = operators_at(tokens, types, fuel, at);
+    let inner = operators_at(tokens, false, fuel - outer, at + outer);
+    if outer + inner == fuel {
+        return Ok(None);
     }
-    if is_mark(tokens, at, Mark::Arrow) {
-        let Some(to) = unary(tokens, out, fuel - 1, types, bare, at + 1)? else {
-            return Ok(None);
-        };
-        if types && typed(&out.posts) {
-            return recast(out, to, mark);
-        }
-        close(out, NodeKind::Receive, at, to, mark)?;
-        return Ok(Some(to));
-    }
-    let Some(kind) = unary_at(tokens, at) else {
-        return primary(tokens, out, fuel - 1, types, bare, at);
-    };
-    let Some(to) = unary(tokens, out, fuel - 1, false, bare, at + 1)? else {
+    let steps = fuel - outer - inner - 1;
+    let behind = at + outer + inner;
+    let Some(to) = primary(tokens, out, steps, stays(types, inner), bare, behind)? else {
         return Ok(None);
     };
-    close(out, kind, at, to, mark)?;
-    Ok(Some(to))
+    let plain = Operators {
+        types: false,
+        first: at + outer,
+        count: inner,
+        mark,
+    };
+    let Some(_) = close_operators(tokens, out, plain, to)? else {
+        return Ok(None);
+    };
+    let operators = Operators {
+        types,
+        first: at,
+        count: outer,
+        mark,
+    };
+    let Some(end) = close_operators(tokens, out, operators, to)? else {
+        return Ok(None);
+    };
+    Ok(Some(end))
 }
 
 /// An operand with what goes on behind it.

@@ -5,7 +5,7 @@ ghost use Rattle.argot_tree.specs.Nesting.{IsShallow};
 ghost use Rattle.argot_tree.specs.Trees.{IsLongestPart};
 ghost use Rattle.argot_parse_reader.specs.Reading.{The, Gives};
 ghost use Rattle.argot_parse_reader.specs.Reader.{read};
-ghost use Rattle.argot_grammar.specs.Parts.{part_of, alone_part, IsNoPart};
+ghost use Rattle.argot_grammar.specs.Parts.{part_of, alone_part, IsNoPart, NamesUpTo};
 
 use crate::alone::{Alone, Part};
 use crate::blocks::block;
@@ -39,9 +39,11 @@ fn read_alone(
     }
 }
 
-// The furthest token at which one that is needed was missing.
-fn furthest(out: &Writer) -> u32 {
-    u32::try_from(out.furthest).unwrap_or(u32::MAX)
+// The furthest token at which one that is needed was missing, of so many.
+fn furthest(out: &Writer, count: u32) -> u32
+    ensures { result ≤ count }
+{
+    u32::try_from(out.furthest).unwrap_or(u32::MAX).min(count)
 }
 
 fn longest(
@@ -53,17 +55,18 @@ fn longest(
     requires { at ≤ length tokens.now }
     ensures longest { IfOk result (λ r. IsLongestPart tokens.now (alone_part what) r.0.nodes at r.1) }
     ensures fault { IfErr result (IsNoPart tokens.now (alone_part what) at) }
+    ensures token { IfErr result (NamesUpTo (length tokens.now)) }
 {
-    let count = narrow(tokens.len())? as usize;
+    let count = narrow(tokens.len())?;
     let mut out = Writer {
         alloc,
         posts: Vec::new(alloc),
         furthest: at,
     };
-    let steps = 32 * (count - at) + 32;
+    let steps = 32 * (count as usize - at) + 32;
     let Some(to) = read_alone(tokens, &mut out, steps, what, at)? else {
         return Err(ParseFault::Syntax {
-            token: furthest(&out),
+            token: furthest(&out, count),
         });
     };
     let behind = narrow(to)?;
@@ -77,7 +80,8 @@ fn longest(
 /// The longest expression from a token, and the token behind it (Go specification: Expressions).
 ///
 /// Elements in braces may stand behind a bare type name where `bare`. The tree's nodes are in preorder, and their tokens
-/// are numbers in `tokens`. A syntax fault is answered exactly where no expression begins at the token.
+/// are numbers in `tokens`. A syntax fault is answered exactly where no expression begins at the token;
+/// it names a token, or their number.
 pub fn expression(
     alloc: Global,
     tokens: &Vec<Token>,
@@ -88,6 +92,7 @@ pub fn expression(
     requires shallow { IsShallow tokens.now.items }
     ensures longest { IfOk result (λ r. IsLongestPart tokens.now.items (Level 1 bare) r.0.nodes at r.1) }
     ensures fault { IfErr result (IsNoPart tokens.now.items (Level 1 bare) at) }
+    ensures token { IfErr result (NamesUpTo (length tokens.now.items)) }
 {
     longest(alloc, tokens, Alone::Expression(bare), at as usize)
 }
@@ -96,7 +101,7 @@ pub fn expression(
 /// Declarations and scope, Blocks).
 ///
 /// The tree's nodes are in preorder, and their tokens are numbers in `tokens`. A syntax fault is answered exactly where no
-/// part of this kind begins at the token.
+/// part of this kind begins at the token; it names a token, or their number.
 pub fn part(
     alloc: Global,
     tokens: &Vec<Token>,
@@ -107,6 +112,7 @@ pub fn part(
     requires shallow { IsShallow tokens.now.items }
     ensures longest { IfOk result (λ r. IsLongestPart tokens.now.items (part_of what) r.0.nodes at r.1) }
     ensures fault { IfErr result (IsNoPart tokens.now.items (part_of what) at) }
+    ensures token { IfErr result (NamesUpTo (length tokens.now.items)) }
 {
     longest(alloc, tokens, Alone::Other(what), at as usize)
 }

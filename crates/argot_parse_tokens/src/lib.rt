@@ -3,9 +3,9 @@
 //! Each answers what the definition of the same name of argot_tree or argot_parse_reader says: which token stands somewhere
 //! and what may begin or end there, the nodes with one more over those since a mark, the nodes without those since a mark,
 //! an arrow that is given to the `chan` behind it. A `Row` has the types that go on to their right, and `Operators` are those
-//! before an operand: both are put on when what stands in them is read, so that no call is as deep as they are many; their
-//! definitions stand in specs/, and cost nothing beside the nodes but the row's list. `Writer` also keeps the furthest token at which one that is needed was
-//! missing; no contract speaks of it. argot_grammar and argot_parse stand on this.
+//! before an operand: both are put on when what stands in them is read, so that no call is as deep as they are many. Their
+//! definitions stand in specs/; a row costs a list of its types. `Writer` also keeps the furthest token at which one that is
+//! needed was missing; no contract speaks of it. argot_grammar and argot_parse stand on this.
 #![tactic(auto)]
 
 mod arrows;

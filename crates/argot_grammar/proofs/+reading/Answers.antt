@@ -1,12 +1,20 @@
-use Rattle.std.proofs.Common.{◌≡◌, ◌-◌, ◌+◌, ◌<◌, ◌≤◌, ◌∷◌, [], ◌++◌, length, reverse, take, Some, true, false, sym, ap, ◌∙◌, arith}
+use Rattle.std.proofs.Common.{◌≡◌, ◌-◌, ◌+◌, ◌<◌, ◌≤◌, ◌∷◌, [], ◌++◌, length, reverse, take, Some, None, true, false, refl, sym, ap, ◌∙◌, arith}
 use Rattle.std.proofs.lemmas.Grind.{common_steps}
 use Rattle.argot_tree.specs.declared.keyword.Keyword.TheVariants as words
 use Rattle.argot_tree.specs.declared.node_kind.NodeKind.TheVariants as nodes
-use Rattle.argot_parse_reader.specs.Reading.{Ifs, Labels, closed_all, is_word}
+use Rattle.argot_tree.specs.Grammar.{AnyType, OnlyType}
+use Rattle.argot_parse_reader.specs.Reading.{The, UnaryOr, PrimaryOr, Ifs, Labels, ◌>>=◌, closing, closed_all, is_word}
+use Rattle.argot_parse_reader.specs.TypeReader.{type_parens_by, formed_by}
 use Rattle.argot_parse_reader.specs.StatementReader.{labels}
 use Rattle.argot_parse_reader.specs.Reader.{read}
-use Rattle.argot_parse_reader.proofs.Steps.{read_more}
+use Rattle.argot_parse_reader.proofs.Steps.{read_more, read_none}
 use Rattle.argot_parse_reader.proofs.Grows.{kept, kept_more, kept_opening, kept_condition, kept_assign, kept_simple}
+use Rattle.argot_parse_tokens.specs.Rows.{begun_at, unwound, row_by}
+use Rattle.argot_parse_tokens.specs.Operators.{operates, stays, all_operated}
+use Rattle.argot_parse_tokens.proofs.RowLaws.{unwound_on, unwound_off}
+use Rattle.argot_parse_tokens.proofs.OperatorLaws.{operated_none}
+use Rattle.argot_parse_tokens.proofs.UnaryLaws.{unary_reads, unary_over, none_behind}
+use Rattle.argot_grammar.proofs.TypeLaws.{star_reads, parens_none, formed_reads, same_row}
 use Rattle.argot_grammar.proofs.FrontLaws.{through}
 use Rattle.argot_grammar.proofs.ChainLaws.{pushed, ifs_to, ifs_end, no_else, else_if, else_block, else_none, labels_to}
 use Rattle.argot_grammar.proofs.+reading.Goals as goal
@@ -443,3 +451,156 @@ blocks::labelled-loop-fuel-preserved t c =
       kept = grind (arith, common_steps);
       fewer = omega arith;
     }
+
+pub types::row_type-returns : goal.types::row_type-returns
+types::row_type-returns t c =
+    let tokens = c.args.tokens.now in
+    let row = c.loop-row.row in
+    let out = c.loop-row.out.posts.items in
+    let over : row_by tokens row out ≡ None = unwound_off row.begun.items (read tokens row.fuel (The AnyType) row.at out) (read_none tokens row.fuel (The AnyType) row.at out (omega arith)) in
+    (sym c.loop-row.invariant.reads ∙ over, grind (arith, common_steps))
+
+pub types::turn-returns-in-None-clause-value : goal.types::turn-returns-in-None-clause-value
+types::turn-returns-in-None-clause-value t c =
+    let tokens = c.args.tokens.now in
+    let row = c.args.row.now in
+    let out = c.args.out.now.posts.items in
+    let none : type_parens_by tokens (read tokens (row.fuel - 1)) row.at out ≡ None = grind (arith, common_steps) in
+    let read_ = parens_none tokens row.fuel row.at out (omega arith) (cc) (cc) none in
+    (unwound_off row.begun.items (read tokens row.fuel (The AnyType) row.at out) read_, grind (arith, common_steps))
+
+pub types::turn-returns-then-is_mark-2-clause-value : goal.types::turn-returns-then-is_mark-2-clause-value
+types::turn-returns-then-is_mark-2-clause-value t c =
+    let tokens = c.args.tokens.now in
+    let row = c.args.row.now in
+    let new = c.begin.new.row in
+    let out = c.args.out.now.posts.items in
+    let star = star_reads tokens row.fuel row.at out (omega arith) (cc) (cc) (cc) in
+    let begun : new.begun.items ≡ row.begun.items ++ begun_at nodes.PointerType row.at (length out) ∷ [] = grind (arith, common_steps) in
+    let one = unwound_on row.begun.items new.begun.items nodes.PointerType row.at (length out) (read tokens (row.fuel - 1) (The AnyType) (row.at + 1) out) (read tokens row.fuel (The AnyType) row.at out) begun star in
+    let rest = same_row tokens (row.fuel - 1) new.fuel (row.at + 1) new.at out (grind (arith, common_steps)) (grind (arith, common_steps)) in
+    (one ∙ ap (unwound new.begun.items) rest, grind (arith, common_steps))
+
+pub types::formed_turn-returns-then-row-eq0-clause-value : goal.types::formed_turn-returns-then-row-eq0-clause-value
+types::formed_turn-returns-then-row-eq0-clause-value t c =
+    let tokens = c.args.tokens.now in
+    let row = c.args.row.now in
+    let out = c.args.out.now.posts.items in
+    (unwound_off row.begun.items (read tokens row.fuel (The OnlyType) row.at out) (read_none tokens row.fuel (The OnlyType) row.at out (grind arith)), refl)
+
+pub types::formed_turn-returns-in-None-clause-value : goal.types::formed_turn-returns-in-None-clause-value
+types::formed_turn-returns-in-None-clause-value t c =
+    let tokens = c.args.tokens.now in
+    let row = c.args.row.now in
+    let out = c.args.out.now.posts.items in
+    let none : formed_by tokens (read tokens (row.fuel - 1)) row.at out ≡ None = grind (arith, common_steps) in
+    (unwound_off row.begun.items (read tokens row.fuel (The OnlyType) row.at out) (formed_reads tokens row.fuel row.at out None (grind arith) none), grind (arith, common_steps))
+
+pub types::formed_turn-returns-in_ok-begin-in-Some-Before-clause-value : goal.types::formed_turn-returns-in_ok-begin-in-Some-Before-clause-value
+types::formed_turn-returns-in_ok-begin-in-Some-Before-clause-value t c =
+    let tokens = c.args.tokens.now in
+    let row = c.args.row.now in
+    let new = c.begin.new.row in
+    let old = c.args.out.now.posts.items in
+    let out = c.formed.new.out.posts.items in
+    let kind = c.in-Some-Before.kind in
+    let inner = read tokens (row.fuel - 1) (The AnyType) c.in-Some-Before.inner out in
+    let front : formed_by tokens (read tokens (row.fuel - 1)) row.at old ≡ (inner >>= closing kind row.at old) = grind (arith, common_steps) in
+    let begun : new.begun.items ≡ row.begun.items ++ begun_at kind row.at (length old) ∷ [] = grind (arith, common_steps) in
+    let one = unwound_on row.begun.items new.begun.items kind row.at (length old) inner (read tokens row.fuel (The OnlyType) row.at old) begun (formed_reads tokens row.fuel row.at old (inner >>= closing kind row.at old) (grind arith) front) in
+    let rest = same_row tokens (row.fuel - 1) new.fuel c.in-Some-Before.inner new.at out (grind (arith, common_steps)) (grind (arith, common_steps)) in
+    (one ∙ ap (unwound new.begun.items) rest, grind (arith, common_steps))
+
+pub types::formed_turn-returns-in_ok-begin-in-Some-Result-2-clause-value : goal.types::formed_turn-returns-in_ok-begin-in-Some-Result-2-clause-value
+types::formed_turn-returns-in_ok-begin-in-Some-Result-2-clause-value t c =
+    let tokens = c.args.tokens.now in
+    let row = c.args.row.now in
+    let mid = c.begin-in-Some-Result.new.row in
+    let new = c.begin-in-Some-Result-2.new.row in
+    let old = c.args.out.now.posts.items in
+    let out = c.formed.new.out.posts.items in
+    let inner = read tokens (row.fuel - 1 - 1) (The AnyType) c.in-Some-Result.inner out in
+    let signature = inner >>= closing nodes.Signature (row.at + 1) old in
+    let front : formed_by tokens (read tokens (row.fuel - 1)) row.at old ≡ (signature >>= closing nodes.FuncType row.at old) = grind (arith, common_steps) in
+    let first : mid.begun.items ≡ row.begun.items ++ begun_at nodes.FuncType row.at (length old) ∷ [] = grind (arith, common_steps) in
+    let second : new.begun.items ≡ mid.begun.items ++ begun_at nodes.Signature (row.at + 1) (length old) ∷ [] = grind (arith, common_steps) in
+    let one = unwound_on row.begun.items mid.begun.items nodes.FuncType row.at (length old) signature (read tokens row.fuel (The OnlyType) row.at old) first (formed_reads tokens row.fuel row.at old (signature >>= closing nodes.FuncType row.at old) (grind arith) front) in
+    let two = unwound_on mid.begun.items new.begun.items nodes.Signature (row.at + 1) (length old) inner signature second refl in
+    let rest = same_row tokens (row.fuel - 1 - 1) new.fuel c.in-Some-Result.inner new.at out (grind (arith, common_steps)) (grind (arith, common_steps)) in
+    (one ∙ (two ∙ ap (unwound new.begun.items) rest), grind (arith, common_steps))
+
+pub expressions::unary-returns-then-outer-inner : goal.expressions::unary-returns-then-outer-inner
+expressions::unary-returns-then-outer-inner t c =
+    let tokens = c.args.tokens.now in
+    let old = c.args.out.now.posts.items in
+    let outer = c.operators_at-outer.result in
+    let inner = c.operators_at-inner.result in
+    let all : outer + inner ≡ c.args.fuel = grind arith in
+    (unary_over tokens c.args.types c.args.bare c.args.fuel c.args.at old outer inner (sym c.operators_at-outer.ensures.value) (sym c.operators_at-inner.ensures.value) all c.operators_at-outer.ensures.stops, refl)
+
+pub expressions::unary-returns-in_default : goal.expressions::unary-returns-in_default
+expressions::unary-returns-in_default t c =
+    let tokens = c.args.tokens.now in
+    let old = c.args.out.now.posts.items in
+    let outer = c.operators_at-outer.result in
+    let inner = c.operators_at-inner.result in
+    let more : outer + inner < c.args.fuel = grind arith in
+    let stops : operates tokens c.args.types (c.args.at + outer) ≡ false = c.operators_at-outer.ensures.stops (omega arith) in
+    let ends : operates tokens false (c.args.at + outer + inner) ≡ false = c.operators_at-inner.ensures.stops (omega arith) in
+    let none : read tokens (c.args.fuel - outer - inner - 1) (PrimaryOr (stays c.args.types inner) c.args.bare) (c.args.at + outer + inner) old ≡ None = grind (arith, common_steps) in
+    let reads = unary_reads tokens c.args.types c.args.bare c.args.fuel c.args.at old outer inner (sym c.operators_at-outer.ensures.value) (sym c.operators_at-inner.ensures.value) more stops ends None none in
+    (reads ∙ none_behind tokens c.args.types c.args.bare c.args.fuel c.args.at old outer inner (sym c.operators_at-outer.ensures.value) (sym c.operators_at-inner.ensures.value), grind (arith, common_steps))
+
+pub expressions::unary-returns-in_default-2 : goal.expressions::unary-returns-in_default-2
+expressions::unary-returns-in_default-2 t c =
+    let tokens = c.args.tokens.now in
+    let old = c.args.out.now.posts.items in
+    let behind = c.primary.new.out.posts.items in
+    let outer = c.operators_at-outer.result in
+    let inner = c.operators_at-inner.result in
+    let more : outer + inner < c.args.fuel = grind arith in
+    let stops : operates tokens c.args.types (c.args.at + outer) ≡ false = c.operators_at-outer.ensures.stops (omega arith) in
+    let ends : operates tokens false (c.args.at + outer + inner) ≡ false = c.operators_at-inner.ensures.stops (omega arith) in
+    let some : read tokens (c.args.fuel - outer - inner - 1) (PrimaryOr (stays c.args.types inner) c.args.bare) (c.args.at + outer + inner) old ≡ Some (c.in-Some.to, behind) = grind (arith, common_steps) in
+    let base : take (length old) behind ≡ old = grind (arith, common_steps, kept) in
+    let none : all_operated tokens false old (c.args.at + outer) inner (Some (c.in-Some.to, behind)) ≡ None = grind (arith, common_steps) in
+    let reads = unary_reads tokens c.args.types c.args.bare c.args.fuel c.args.at old outer inner (sym c.operators_at-outer.ensures.value) (sym c.operators_at-inner.ensures.value) more stops ends (Some (c.in-Some.to, behind)) some in
+    (reads ∙ (ap (all_operated tokens c.args.types old c.args.at outer) none ∙ operated_none tokens c.args.types old outer c.args.at), grind (arith, common_steps))
+
+pub expressions::unary-returns : goal.expressions::unary-returns
+expressions::unary-returns t c =
+    let tokens = c.args.tokens.now in
+    let old = c.args.out.now.posts.items in
+    let behind = c.primary.new.out.posts.items in
+    let inside = c.close_operators.new.out.posts.items in
+    let to = c.in-Some.to in
+    let outer = c.operators_at-outer.result in
+    let inner = c.operators_at-inner.result in
+    let more : outer + inner < c.args.fuel = grind arith in
+    let stops : operates tokens c.args.types (c.args.at + outer) ≡ false = c.operators_at-outer.ensures.stops (omega arith) in
+    let ends : operates tokens false (c.args.at + outer + inner) ≡ false = c.operators_at-inner.ensures.stops (omega arith) in
+    let some : read tokens (c.args.fuel - outer - inner - 1) (PrimaryOr (stays c.args.types inner) c.args.bare) (c.args.at + outer + inner) old ≡ Some (to, behind) = grind (arith, common_steps) in
+    let base : take (length old) behind ≡ old = grind (arith, common_steps, kept) in
+    let plain : all_operated tokens false old (c.args.at + outer) inner (Some (to, behind)) ≡ Some (to, inside) = grind (arith, common_steps) in
+    let above : take (length old) inside ≡ old = grind (arith, common_steps) in
+    let reads = unary_reads tokens c.args.types c.args.bare c.args.fuel c.args.at old outer inner (sym c.operators_at-outer.ensures.value) (sym c.operators_at-inner.ensures.value) more stops ends (Some (to, behind)) some in
+    reads ∙ (ap (all_operated tokens c.args.types old c.args.at outer) plain ∙ grind (arith, common_steps))
+
+pub expressions::unary-returns-in_default-3 : goal.expressions::unary-returns-in_default-3
+expressions::unary-returns-in_default-3 t c =
+    let tokens = c.args.tokens.now in
+    let old = c.args.out.now.posts.items in
+    let behind = c.primary.new.out.posts.items in
+    let inside = c.close_operators.new.out.posts.items in
+    let to = c.in-Some.to in
+    let outer = c.operators_at-outer.result in
+    let inner = c.operators_at-inner.result in
+    let more : outer + inner < c.args.fuel = grind arith in
+    let stops : operates tokens c.args.types (c.args.at + outer) ≡ false = c.operators_at-outer.ensures.stops (omega arith) in
+    let ends : operates tokens false (c.args.at + outer + inner) ≡ false = c.operators_at-inner.ensures.stops (omega arith) in
+    let some : read tokens (c.args.fuel - outer - inner - 1) (PrimaryOr (stays c.args.types inner) c.args.bare) (c.args.at + outer + inner) old ≡ Some (to, behind) = grind (arith, common_steps) in
+    let base : take (length old) behind ≡ old = grind (arith, common_steps, kept) in
+    let plain : all_operated tokens false old (c.args.at + outer) inner (Some (to, behind)) ≡ Some (to, inside) = grind (arith, common_steps) in
+    let above : take (length old) inside ≡ old = grind (arith, common_steps) in
+    let reads = unary_reads tokens c.args.types c.args.bare c.args.fuel c.args.at old outer inner (sym c.operators_at-outer.ensures.value) (sym c.operators_at-inner.ensures.value) more stops ends (Some (to, behind)) some in
+    (reads ∙ (ap (all_operated tokens c.args.types old c.args.at outer) plain ∙ grind (arith, common_steps)), grind (arith, common_steps))

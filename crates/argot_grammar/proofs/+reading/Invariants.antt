@@ -1,8 +1,9 @@
-use Rattle.std.proofs.Common.{◌≡◌, ◌*◌, ◌+◌, ◌≤◌, take, reverse, []}
+use Rattle.std.proofs.Common.{◌≡◌, ◌*◌, ◌+◌, ◌-◌, ◌≤◌, length, take, reverse, []}
 use Rattle.argot_tree.specs.Grammar.{Cases, Comms, DeclaredList, Eithers, Elements, Fields, Items, NamedList, Stmts, Types}
 use Rattle.argot_parse_reader.specs.Reading.{The, Climb, Suffixes, MoreExprs, Ifs, Labels}
 use Rattle.argot_parse_reader.specs.StatementReader.{label_by}
 use Rattle.argot_parse_reader.specs.Reader.{read}
+use Rattle.argot_parse_tokens.specs.Rows.{row_by}
 use Rattle.argot_grammar.specs.Sorts.{sort_of}
 use Rattle.argot_grammar.proofs.+reading.Given as goal
 
@@ -47,6 +48,27 @@ decreases-signatures::signature l = 32 * l.fuel
 
 abbrev pub decreases-types::any_type : goal.decreases-types::any_type
 decreases-types::any_type l = 32 * l.fuel
+
+abbrev pub decreases-types::row_type : goal.decreases-types::row_type
+decreases-types::row_type l = 32 * l.begun.fuel - 1
+
+abbrev pub decreases-types::turn : goal.decreases-types::turn
+decreases-types::turn l = 32 * l.row.now.fuel - 2
+
+abbrev pub decreases-types::formed_turn : goal.decreases-types::formed_turn
+decreases-types::formed_turn l = 32 * l.row.now.fuel - 1
+
+abbrev pub decreases-types::formed : goal.decreases-types::formed
+decreases-types::formed l = 32 * l.fuel + 2
+
+abbrev pub decreases-types::bracketed : goal.decreases-types::bracketed
+decreases-types::bracketed l = 32 * l.fuel + 1
+
+abbrev pub decreases-types::map_front : goal.decreases-types::map_front
+decreases-types::map_front l = 32 * l.fuel + 1
+
+abbrev pub decreases-types::func_front : goal.decreases-types::func_front
+decreases-types::func_front l = 32 * l.fuel + 1
 
 abbrev pub decreases-types::only_type : goal.decreases-types::only_type
 decreases-types::only_type l = 32 * l.fuel
@@ -96,12 +118,6 @@ decreases-signatures::listed_params l = 32 * l.fuel + 1
 abbrev pub decreases-fields::named_field : goal.decreases-fields::named_field
 decreases-fields::named_field l = 32 * l.fuel + 1
 
-abbrev pub decreases-types::array_type : goal.decreases-types::array_type
-decreases-types::array_type l = 32 * l.fuel + 1
-
-abbrev pub decreases-types::bracketed_type : goal.decreases-types::bracketed_type
-decreases-types::bracketed_type l = 32 * l.fuel + 2
-
 abbrev pub decreases-operands::func_operand : goal.decreases-operands::func_operand
 decreases-operands::func_operand l = 32 * l.fuel + 4
 
@@ -150,20 +166,8 @@ decreases-suffixes::third l = 32 * l.fuel + 1
 abbrev pub decreases-suffixes::call : goal.decreases-suffixes::call
 decreases-suffixes::call l = 32 * l.fuel + 1
 
-abbrev pub decreases-types::chan_type : goal.decreases-types::chan_type
-decreases-types::chan_type l = 32 * l.fuel + 1
-
-abbrev pub decreases-types::func_type : goal.decreases-types::func_type
-decreases-types::func_type l = 32 * l.fuel + 1
-
 abbrev pub decreases-types::interface_type : goal.decreases-types::interface_type
 decreases-types::interface_type l = 32 * l.fuel + 1
-
-abbrev pub decreases-types::map_type : goal.decreases-types::map_type
-decreases-types::map_type l = 32 * l.fuel + 1
-
-abbrev pub decreases-types::receive_type : goal.decreases-types::receive_type
-decreases-types::receive_type l = 32 * l.fuel + 1
 
 abbrev pub decreases-types::struct_type : goal.decreases-types::struct_type
 decreases-types::struct_type l = 32 * l.fuel + 1
@@ -335,6 +339,17 @@ decreases-expressions::more_expressions l = 32 * l.steps
 
 abbrev pub decreases-suffixes::suffixes : goal.decreases-suffixes::suffixes
 decreases-suffixes::suffixes l = 32 * l.steps
+
+abbrev pub invariant-types::row_type-loop-row : goal.invariant-types::row_type-loop-row
+invariant-types::row_type-loop-row l = record {
+  reads : row_by l.tokens l.row l.out.posts.items ≡ row_by l.tokens l.fn.begun l.fn.out.posts.items;
+  kept : take l.mark l.out.posts.items ≡ take l.mark l.fn.out.posts.items;
+  within : l.mark ≤ length l.out.posts.items;
+  fewer : l.row.fuel ≤ l.fn.begun.fuel;
+}
+
+abbrev pub decreases-types::row_type-loop-row : goal.decreases-types::row_type-loop-row
+decreases-types::row_type-loop-row l = l.row.fuel
 
 abbrev pub invariant-elements::items-loop-fuel : goal.invariant-elements::items-loop-fuel
 invariant-elements::items-loop-fuel l = record {
