@@ -30,6 +30,7 @@ use Rattle.argot_check_source.specs.Functions.{signature_of}
 use Rattle.argot_check_typing.specs.Positions.{declaration_row}
 use Rattle.argot_check_typing.specs.Expressions.{is_key}
 use Rattle.argot_check_typing.specs.Rules.{Typed}
+use Rattle.argot_check_typing.specs.Selections.{HasStock}
 use Rattle.argot_check_typing.specs.Faults.{IsSound}
 
 -- the types of a node, by what is said of it: one of a value or a type, those of a call's results, else none
@@ -158,6 +159,7 @@ AreDistinct shapes = (t u : ℕ) → t < length shapes → u < length shapes →
 pub record IsTyping (files : SourceFiles) (packages : Packages) (typed : TypedProgram) : Type 0 where
   pub fit : AreFit typed.table
   pub distinct : AreDistinct typed.table
+  pub stock : HasStock typed.table
   pub named : AreNamedRight (code_of files packages) typed.table
   pub interfaces : AreInterfacesRight (code_of files packages) typed.table
   pub types : AreTypes (code_of files packages) typed.table typed.types

@@ -9,5 +9,6 @@ pub mod Rules
 pub mod Late
 pub mod Loops
 pub mod Faults
+pub mod Selections
 pub mod Answer
 pub mod Laws
