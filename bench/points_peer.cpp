@@ -160,7 +160,8 @@ static void aim(int i, int g) {
     if (!targets.insert({i, g}).second) return;
     int results;
     vector<int> values = handed(code[i], results);
-    for (int k = 0; k < int(values.size()) && k < functions[g].params; k++) edge(base[i] + results + k, base[functions[g].entry] + k);
+    int first = callee(code[i])[0] == 'm' ? 1 : 0;   // the box goes to its own wrapper alone
+    for (int k = first; k < int(values.size()) && k < functions[g].params; k++) edge(base[i] + results + k, base[functions[g].entry] + k);
     for (int k = 0; k < results && k < int(code[functions[g].leave].size()) - 1; k++) edge(base[functions[g].leave] + k, base[i] + k);
     enliven(g);
 }
@@ -168,7 +169,9 @@ static void use(int n, Use u);
 static void look(int n, const Use &u, int y) {
     if (u.kind == 3) {
         auto found = methods.find({sites[locations[y].site].type, u.path});
-        if (found != methods.end()) aim(u.other, found->second);
+        if (found == methods.end()) return;
+        aim(u.other, found->second);
+        if (functions[found->second].params > 0) add(base[functions[found->second].entry], y);
         return;
     }
     int z = moved(y, u.path);

@@ -2,7 +2,7 @@
 use Rattle.std.proofs.Common.{◌≡◌, ℕ, ◌+◌, Bool, List, [], ◌∷◌, ◌++◌, Some, drop, refl, sym, ap, ◌∙◌, inl, inr, arith, subst}
 use Rattle.std.specs.Prelude.{◌⊎◌, slice_get, length}
 use Rattle.argot_plain.specs.Lists.{In}
-use Rattle.argot_plain.specs.Code.{IsAt, IsFunction, IsIn, IsSiteOf, Hands, by_call, by_go, by_defer, handed_values, leaves}
+use Rattle.argot_plain.specs.Code.{IsAt, IsFunction, IsIn, IsSiteOf, Hands, by_call, by_go, by_defer, found_by, handed_values, leaves}
 use Rattle.argot_plain.specs.Nodes.{mark, HasLeaf}
 use Rattle.argot_plain.specs.WellFormed.{WellFormed}
 use Rattle.argot_plain.specs.declared.functions.Function.{Function}
@@ -24,8 +24,9 @@ use Rattle.argot_points_rules.specs.declared.rules.Rule.TheVariants.{Aim}
 use Rattle.argot_points.specs.declared.system.System.{System}
 use Rattle.argot_points.specs.Meaning.{NodeTo, Aimed, RuleHolds}
 use Rattle.argot_points.proofs.Each.{In-append, one-In}
+use Rattle.argot_points.proofs.Chosen.{value_is, value_not, reference_found, found_leaves}
 use Rattle.argot_points.proofs.Handed.{each_enters, each_returns, each_fresh}
-use Rattle.argot_points.proofs.CallsTold.{Comes, aimed_is, aim_told, enter_told, return_told, fresh_told}
+use Rattle.argot_points.proofs.CallsTold.{Comes, aimed_is, aim_told, enter_told, choose_told, return_told, fresh_told}
 use Rattle.argot_points.proofs.Sent.{sent_from}
 use Rattle.argot_points.proofs.Justified.{registers_told, own_leaf, reference_leaf, handed_register, value_reference, method_reference, get-front, get-last}
 
@@ -66,17 +67,24 @@ module _ (s : System) (wf : WellFormed s.program.now) (all : s.locations.items �
         let z : k ≡ n + u.0 = ap (λ (w : Node). w.index) (sym e) ∙ u.1 in
         sent_from s.program.now wf i u.0 r [] x kind callee args n at hands u.2 (subst (λ w. Holds s.program.now (NodeRefers (mark i w []) x)) z t)
 
-    hand_told : (o : Owned) → In o (hand_rules s.program.now fn ds h i (reference i callee args n) n (handed_values callee args)) → Told o
-    hand_told o m = elim (In-append o (register_copies s.program.now fn ds h i n (handed_values callee args) ++ owned h (Aim i (reference i callee args n)) ∷ []) (enters fn h i (reference i callee args n) n 0 (handed_values callee args)) m) [
+    hand_told : (o : Owned) → In o (hand_rules s.program.now fn ds h i (reference i callee args n) n callee args) → Told o
+    hand_told o m = elim (In-append o (register_copies s.program.now fn ds h i n (handed_values callee args) ++ owned h (Aim i (reference i callee args n)) ∷ []) (enters fn h i (reference i callee args n) n (found_by callee args) 0 (handed_values callee args)) m) [
       | inl l ↦ elim (In-append o (register_copies s.program.now fn ds h i n (handed_values callee args)) (owned h (Aim i (reference i callee args n)) ∷ []) l) [
         | inl l ↦ registers_told s wf all ds exact h i fn is inside live kind n (handed_values callee args) at (λ j r q g. handed_register kind callee args n j r hands g) (λ j r q g. handed_copies kind callee args n j r q hands g) o l
         | inr l ↦ subst Told (sym (one-In o (owned h (Aim i (reference i callee args n))) l)) (aim_told s wf all h i n kind callee args inside live at hands leaf back)
       ]
-      | inr l ↦ each_enters Told o fn h i (reference i callee args n) n 0 (handed_values callee args) l
-          (λ l j r e g a q lf.
+      | inr l ↦ each_enters Told o fn h i (reference i callee args n) n (found_by callee args) 0 (handed_values callee args) l
+          (λ l j r e g t a q lf.
           let z : j ≡ l = omega (arith, e) in
-          enter_told s wf all h i n kind callee args inside live at hands leaf back l a q
+          enter_told s wf all h i n kind callee args inside live at hands leaf back l a q (value_not (found_by callee args) l t)
           (own_leaf s wf all ds exact h i fn is inside live kind (n + l) r a q at (handed_register kind callee args n l r hands (subst (λ w. slice_get (handed_values callee args) w ≡ Some r) z g)) lf))
+          (λ l j r e g t.
+          let z : j ≡ l = omega (arith, e) in
+          let f = value_is (found_by callee args) l t in
+          let reg = subst (λ w. slice_get (handed_values callee args) w ≡ Some r) z g in
+          let whole = ap (λ x. slice_get x 0) (sym (register_leaves s.program.now h fn r is) ∙ found_leaves s.program.now wf h i n l r kind callee args inside at hands f reg) in
+          choose_told s wf all h i n kind callee args inside live at hands leaf back l (reference_found i callee args n l f)
+          (own_leaf s wf all ds exact h i fn is inside live kind (n + l) r 0 [] at (handed_register kind callee args n l r hands reg) whole))
     ]
 
   -- what stands at the reference makes targets
@@ -91,8 +99,8 @@ module _ (s : System) (wf : WellFormed s.program.now) (all : s.locations.items �
 
   pub call_told : (to args : List ℕ) (callee : Callee) → IsAt s.program.now i (Call to callee args) → (o : Owned) → In o (kind_rules s.program.now fn ds h i (Call to callee args)) → Told o
   call_told to args callee at o m =
-      elim (In-append o (hand_rules s.program.now fn ds h i (reference i callee args (length to)) (length to) (handed_values callee args) ++ returns fn h i (reference i callee args (length to)) 0 to) (fresh_of s.program.now h i (reference i callee args (length to))) m) [
-        | inl l ↦ elim (In-append o (hand_rules s.program.now fn ds h i (reference i callee args (length to)) (length to) (handed_values callee args)) (returns fn h i (reference i callee args (length to)) 0 to) l) [
+      elim (In-append o (hand_rules s.program.now fn ds h i (reference i callee args (length to)) (length to) callee args ++ returns fn h i (reference i callee args (length to)) 0 to) (fresh_of s.program.now h i (reference i callee args (length to))) m) [
+        | inl l ↦ elim (In-append o (hand_rules s.program.now fn ds h i (reference i callee args (length to)) (length to) callee args) (returns fn h i (reference i callee args (length to)) 0 to) l) [
           | inl l ↦ hand_told (Call to callee args) callee args (length to) at by_call o l
           | inr l ↦ each_returns Told o fn h i (reference i callee args (length to)) 0 to l
               (λ l j r e g a q lf.

@@ -1,14 +1,15 @@
 -- Tables that are closed under the rules of calls have what these say.
-use Rattle.std.proofs.Common.{◌≡◌, ℕ, ◌+◌, ◌-◌, ◌<◌, Bool, true, List, [], ◌∷◌, ◌++◌, Some, None, Option, drop, refl, sym, ap, ◌∙◌, arith, subst}
+use Rattle.std.proofs.Common.{◌≡◌, ℕ, zero, suc, false, ◌+◌, ◌-◌, ◌<◌, Bool, true, List, [], ◌∷◌, ◌++◌, Some, None, Option, drop, refl, sym, ap, ◌∙◌, arith, subst}
 use Rattle.std.specs.Prelude.{slice_get, length}
 use Rattle.argot_links.specs.Table.{has}
 use Rattle.argot_plain.specs.Lists.{In, here, IsDistinct}
-use Rattle.argot_plain.specs.Code.{IsAt, IsFunction, IsIn, Hands, by_call, by_go, by_defer, arguments, handed_values, param_of, node_registers, leaves}
+use Rattle.argot_plain.specs.Code.{IsAt, IsFunction, IsIn, Hands, by_call, by_go, by_defer, found_by, Selects, GoesTo, arguments, handed_values, param_of, node_registers, leaves}
 use Rattle.argot_plain.specs.Nodes.{Mark, mark, IsNode, HasLeaf, of_kind, of_items, of_elements, of_entry}
 use Rattle.argot_plain.specs.Outside.{IsResultSite}
 use Rattle.argot_plain.specs.WellFormed.{WellFormed}
 use Rattle.argot_plain.specs.declared.functions.Function.{Function}
 use Rattle.argot_plain.specs.declared.instructions.Callee.{Callee}
+use Rattle.argot_plain.specs.declared.instructions.Callee.TheVariants.{Static}
 use Rattle.argot_plain.specs.declared.instructions.Kind.{Kind}
 use Rattle.argot_plain.specs.declared.instructions.Kind.TheVariants.{Grow, Call, Leave, Goto}
 use Rattle.argot_text.specs.declared.path.PathStep.{PathStep}
@@ -18,18 +19,20 @@ use Rattle.argot_facts.specs.Refers.{Location, loc}
 use Rattle.argot_facts.proofs.Marked.{register_leaves}
 use Rattle.argot_facts.proofs.Listed.{get_within, get_at, get-drop}
 use Rattle.argot_facts.proofs.Placed.{one_function}
-use Rattle.argot_points_rules.specs.Column.{owned, register_copies, kind_rules, hand_rules, reference, enters, returns, fresh_of, rules_of}
+use Rattle.argot_points_rules.specs.Column.{owned, register_copies, kind_rules, hand_rules, reference, is_value, enters, returns, fresh_of, rules_of}
 use Rattle.argot_points_rules.specs.declared.rules.Owned.{Owned}
-use Rattle.argot_points_rules.specs.declared.rules.Rule.TheVariants.{Aim, Enter, Return, Fresh}
+use Rattle.argot_points_rules.specs.declared.rules.Rule.TheVariants.{Aim, Enter, Choose, Return, Fresh}
 use Rattle.argot_points.specs.declared.system.System.{System}
 use Rattle.argot_points.specs.declared.system.Tables.{Tables}
-use Rattle.argot_points.specs.Meaning.{IsRow, Aimed}
+use Rattle.argot_points.specs.Meaning.{IsRow, IsCall, IsParam, Means, Aimed}
 use Rattle.argot_points.specs.Reading.{HasTarget}
 use Rattle.argot_points.specs.Solved.{AllDone, Refers}
 use Rattle.argot_points.proofs.CallsTold.{same_kind, hands_once}
 use Rattle.argot_points.proofs.Defined.{entry_inside}
 use Rattle.argot_points.proofs.Each.{In-left, In-right}
-use Rattle.argot_points.proofs.Handed.{enters_have, returns_have, fresh_have}
+use Rattle.argot_points.proofs.Handed.{enters_have, chooses_have, returns_have, fresh_have}
+use Rattle.argot_points.proofs.Called.{object_aim}
+use Rattle.argot_points.proofs.Chosen.{value_is, reference_found, found_leaves, selects_means}
 use Rattle.argot_points.proofs.Justified.{get-front, get-behind}
 use Rattle.argot_points.proofs.LeafOf.{node_leaf, leaf_there, never_entry}
 use Rattle.argot_points.proofs.Ruled.{HasNode, row_of, column_of, rule_kept}
@@ -49,11 +52,11 @@ module _ (s : System) (t : Tables) (wf : WellFormed s.program.now) (nodes : s.no
   Target i g takes = HasTarget s t i g takes
 
   hand_rule : (h i : ℕ) (fn : Function) (kind : Kind) (callee : Callee) (args : List ℕ) (n : ℕ) → Hands kind callee args n → (o : Owned)
-      → In o (hand_rules s.program.now fn ds h i (reference i callee args n) n (handed_values callee args)) → In o (kind_rules s.program.now fn ds h i kind)
+      → In o (hand_rules s.program.now fn ds h i (reference i callee args n) n callee args) → In o (kind_rules s.program.now fn ds h i kind)
   hand_rule h i fn kind callee args n (by_call {to = to}) o m =
       let by = reference i callee args (length to) in
-      In-left o (hand_rules s.program.now fn ds h i by (length to) (handed_values callee args) ++ returns fn h i by 0 to) (fresh_of s.program.now h i by)
-      (In-left o (hand_rules s.program.now fn ds h i by (length to) (handed_values callee args)) (returns fn h i by 0 to) m)
+      In-left o (hand_rules s.program.now fn ds h i by (length to) callee args ++ returns fn h i by 0 to) (fresh_of s.program.now h i by)
+      (In-left o (hand_rules s.program.now fn ds h i by (length to) callee args) (returns fn h i by 0 to) m)
   hand_rule h i fn kind callee args n by_go o m = m
   hand_rule h i fn kind callee args n by_defer o m = m
 
@@ -64,7 +67,7 @@ module _ (s : System) (t : Tables) (wf : WellFormed s.program.now) (nodes : s.no
       let o = owned x.function (Aim i by) in
       let values = handed_values x.callee x.args in
       let m = hand_rule x.function i fn x.kind x.callee x.args x.behind x.hands o
-      (In-left o (register_copies s.program.now fn ds x.function i x.behind values ++ o ∷ []) (enters fn x.function i by x.behind 0 values)
+      (In-left o (register_copies s.program.now fn ds x.function i x.behind values ++ o ∷ []) (enters fn x.function i by x.behind (found_by x.callee x.args) 0 values)
       (In-right o (register_copies s.program.now fn ds x.function i x.behind values) (o ∷ []) (here refl))) in
       rule_kept s t wf nodes all ds exact same done x.function i x.inside x.kind x.live x.at (Aim i by) m g takes x.aimed
 
@@ -97,34 +100,111 @@ module _ (s : System) (t : Tables) (wf : WellFormed s.program.now) (nodes : s.no
       let v : e.fn ≡ fn = cc in
       (subst (λ (x : Function). j < x.params) v within, leaf_there s.program.now wf g fn is g' j a q f leaf)
 
-  pub param_kept : (i g n k j : ℕ) (takes : Bool) (q : List PathStep) (x : Location) (kind : Kind) (callee : Callee) (args : List ℕ) (fn : Function) → IsAt s.program.now i kind → Hands kind callee args n → Target i g takes
-      → param_of takes (length (arguments callee args)) k ≡ Some j → IsFunction s.program.now g fn → IsNode s.program.now (mark fn.entry j q) → Node (mark i (n + k) q) x → Node (mark fn.entry j q) x
-  param_kept i g n k j takes q x kind callee args fn at hands target taken is stands from =
-      let e = same_kind s.program.now i target.kind kind target.at at in
-      let once = hands_once kind target.callee callee target.args args target.behind n (subst (λ c. Hands c target.callee target.args target.behind) e target.hands) hands in
-      let by = reference i target.callee target.args target.behind in
-      let sent = sent_leaf target.function i k from.number n q kind callee args target.inside at hands from.leaf in
-      let m = row_of s t wf nodes all ds exact same done i (n + k) from.number q from.leaf in
-      let values = handed_values target.callee target.args in
-      let reg : slice_get values k ≡ Some sent.0 = ap (λ c. slice_get (handed_values c target.args) k) once.0 ∙ ap (λ c. slice_get (handed_values callee c) k) once.1 ∙ sent.1 in
-      let z : k ≡ 0 + k = omega arith in
-      let o = owned target.function (Enter i by k q (node i (target.behind + k) from.number)) in
-      let rule = hand_rule target.function i target.inside.fn target.kind target.callee target.args target.behind target.hands o
-      (In-right o (register_copies s.program.now target.inside.fn ds target.function i target.behind values ++ owned target.function (Aim i by) ∷ []) (enters target.inside.fn target.function i by target.behind 0 values)
-      (enters_have target.inside.fn target.function i by target.behind 0 values k k sent.0 z reg from.number q sent.2)) in
-      let kept = rule_kept s t wf nodes all ds exact same done target.function i target.inside target.kind target.live target.at (Enter i by k q (node i (target.behind + k) from.number)) rule g takes target.aimed in
-      record {
-        number = stands.number;
-        leaf = stands.has;
-        to = from.to;
-        column = from.column;
-        is = from.is;
-        at = from.at;
-        refers = λ b a leaf row.
-            let p = param_leaf g fn j a q is leaf in
-            kept m.0 b (record { param = j; taken = record { callee = callee; args = args; behind = n; call = record { kind = kind; is = at; hands = hands }; taken = taken }; of = record { fn = fn; is = is; within = p.0; row = record { leaf = a; at = p.1; row = row } } })
-            (subst (λ w. IsRow s m.0 (node i (w + k) from.number)) (sym once.2) m.1) from.column (from.refers m.0 from.number from.leaf m.1);
-      }
+  module _ (i g n k j : ℕ) (takes : Bool) (q : List PathStep) (x : Location) (kind : Kind) (callee : Callee) (args : List ℕ) (fn : Function) (at : IsAt s.program.now i kind) (hands : Hands kind callee args n)
+      (target : Target i g takes) (taken : param_of takes (length (arguments callee args)) k ≡ Some j) (is : IsFunction s.program.now g fn) (stands : IsNode s.program.now (mark fn.entry j q)) (from : Node (mark i (n + k) q) x) where
+    target_hands : (target.callee ≡ callee) × (target.args ≡ args) × (target.behind ≡ n)
+    target_hands = hands_once kind target.callee callee target.args args target.behind n (subst (λ c. Hands c target.callee target.args target.behind) (same_kind s.program.now i target.kind kind target.at at) target.hands) hands
+
+    target_found : found_by target.callee target.args ≡ found_by callee args
+    target_found = ap (λ c. found_by c target.args) target_hands.0 ∙ ap (found_by callee) target_hands.1
+
+    sent_there : (r : ℕ) × (slice_get (handed_values callee args) k ≡ Some r) × (slice_get (leaves_of target.inside.fn r) from.number ≡ Some q)
+    sent_there = sent_leaf target.function i k from.number n q kind callee args target.inside at hands from.leaf
+
+    sent_value : slice_get (handed_values target.callee target.args) k ≡ Some sent_there.0
+    sent_value = ap (λ c. slice_get (handed_values c target.args) k) target_hands.0 ∙ ap (λ c. slice_get (handed_values callee c) k) target_hands.1 ∙ sent_there.1
+
+    handed_rule : (o : Owned) → In o (enters target.inside.fn target.function i (reference i target.callee target.args target.behind) target.behind (found_by target.callee target.args) 0 (handed_values target.callee target.args))
+        → In o (kind_rules s.program.now target.inside.fn ds target.function i target.kind)
+    handed_rule o m =
+        let by = reference i target.callee target.args target.behind in
+        let values = handed_values target.callee target.args in
+        hand_rule target.function i target.inside.fn target.kind target.callee target.args target.behind target.hands o
+        (In-right o (register_copies s.program.now target.inside.fn ds target.function i target.behind values ++ owned target.function (Aim i by) ∷ [])
+        (enters target.inside.fn target.function i by target.behind (found_by target.callee target.args) 0 values) m)
+
+    entered : (p : List PathStep) → q ≡ p → (a b : ℕ) → HasLeaf s.program.now fn.entry j a q → IsRow s b (node fn.entry j a) → IsParam s i g takes k p b
+    entered p e a b leaf row =
+        let m = param_leaf g fn j a q is leaf in record {
+          param = j;
+          taken = record { callee = callee; args = args; behind = n; call = record { kind = kind; is = at; hands = hands }; taken = taken };
+          of = record { fn = fn; is = is; within = m.0; row = record { leaf = a; at = m.1 ∙ ap Some e; row = row } };
+        }
+
+    -- a value by which the callee isn't found, goes to each target
+    value_kept : is_value (found_by callee args) k ≡ false → Node (mark fn.entry j q) x
+    value_kept other =
+        let by = reference i target.callee target.args target.behind in
+        let m = row_of s t wf nodes all ds exact same done i (n + k) from.number q from.leaf in
+        let z : k ≡ 0 + k = omega arith in
+        let rule = handed_rule (owned target.function (Enter i by k q (node i (target.behind + k) from.number)))
+        (enters_have target.inside.fn target.function i by target.behind (found_by target.callee target.args) 0 (handed_values target.callee target.args) k k sent_there.0 z sent_value (ap (λ v. is_value v k) target_found ∙ other) from.number q sent_there.2) in
+        let kept = rule_kept s t wf nodes all ds exact same done target.function i target.inside target.kind target.live target.at (Enter i by k q (node i (target.behind + k) from.number)) rule g takes target.aimed in
+        record {
+          number = stands.number;
+          leaf = stands.has;
+          to = from.to;
+          column = from.column;
+          is = from.is;
+          at = from.at;
+          refers = λ b a leaf row. kept m.0 b (entered q refl a b leaf row)
+              (subst (λ w. IsRow s m.0 (node i (w + k) from.number)) (sym target_hands.2) m.1) from.column (from.refers m.0 from.number from.leaf m.1);
+        }
+
+    -- what the callee means at the targets
+    target_means : (v : found_by callee args ≡ Some k) → (y : ℕ) × Means s callee y g takes
+    target_means v =
+        let a = object_aim s (Refers t) i (reference i target.callee target.args target.behind) callee alone g takes not_number target.aimed in (a.1, a.4)
+      where
+        alone : (other : Callee) (xs : List ℕ) (m : ℕ) → IsCall s.program.now i other xs m → other ≡ callee
+        alone other xs m call = (hands_once kind other callee xs args m n (subst (λ c. Hands c other xs m) (same_kind s.program.now i call.kind kind call.is at) call.hands) hands).0
+
+        not_number : (h : ℕ) → callee ≡ Static h → ⊥
+        not_number h e = let f : found_by (Static h) args ≡ Some k = ap (λ c. found_by c args) (sym e) ∙ v in cc
+
+    -- that by which it is found, to what it selects
+    chosen_kept : is_value (found_by callee args) k ≡ true → Selects s.program.now x.site g callee → Node (mark fn.entry j q) x
+    chosen_kept found selects =
+        let v = value_is (found_by callee args) k found in
+        let by = reference i target.callee target.args target.behind in
+        let m = row_of s t wf nodes all ds exact same done i (n + k) from.number q from.leaf in
+        let z : k ≡ 0 + k = omega arith in
+        let whole = register_leaves s.program.now target.function target.inside.fn sent_there.0 target.inside.is ∙ refl in
+        let one = sym whole ∙ found_leaves s.program.now wf target.function i n k sent_there.0 kind callee args target.inside at hands v sent_there.1 in
+        let first = only_leaf from.number q (ap (λ c. slice_get c from.number) (sym one) ∙ sent_there.2) in
+        let by_is : by ≡ node i (n + k) 0 =
+        ap (λ c. reference i c target.args target.behind) target_hands.0 ∙ ap (λ c. reference i callee c target.behind) target_hands.1 ∙ ap (reference i callee args) target_hands.2 ∙ reference_found i callee args n k v in
+        let by_row : IsRow s m.0 by = subst (IsRow s m.0) (ap (node i (n + k)) first.0 ∙ sym by_is) m.1 in
+        let rule = handed_rule (owned target.function (Choose i by k))
+        (chooses_have target.inside.fn target.function i by target.behind (found_by target.callee target.args) 0 (handed_values target.callee target.args) k k sent_there.0 z sent_value (ap (λ v. is_value v k) target_found ∙ found)) in
+        let kept = rule_kept s t wf nodes all ds exact same done target.function i target.inside target.kind target.live target.at (Choose i by k) rule in
+        let site : x.site ≡ from.to.site = ap (λ (l : Location). l.site) from.is in
+        let other = target_means v in
+        let means = selects_means s from.to.site other.1.loc.site callee g takes (subst (λ c. Selects s.program.now c g callee) site selects) other.1.means in
+        record {
+          number = stands.number;
+          leaf = stands.has;
+          to = from.to;
+          column = from.column;
+          is = from.is;
+          at = from.at;
+          refers = λ b a leaf row. kept m.0 from.column b by_row (from.refers m.0 from.number from.leaf m.1) (record {
+            callee = callee;
+            there = record { args = args; behind = n; call = record { kind = kind; is = at; hands = hands } };
+            by = record { function = g; takes = takes; means = record { loc = from.to; is = from.at; means = means }; param = entered [] first.1 a b leaf row };
+          });
+        }
+      where
+        only_leaf : (a : ℕ) (p : List PathStep) → slice_get ([] ∷ []) a ≡ Some p → (a ≡ 0) × (p ≡ [])
+        only_leaf zero p e = (refl, cc)
+        only_leaf (suc a) p e = absurd cc
+
+    pub param_kept : GoesTo s.program.now callee args k x.site g → Node (mark fn.entry j q) x
+    param_kept goes = value_case (is_value (found_by callee args) k) refl
+      where
+        value_case : (b : Bool) → is_value (found_by callee args) k ≡ b → Node (mark fn.entry j q) x
+        value_case true e = chosen_kept e (goes (value_is (found_by callee args) k e))
+        value_case false e = value_kept e
 
   -- a leaf of what is handed back
   left_leaf : (g : ℕ) (fn : Function) (from : List ℕ) (k a : ℕ) (q : List PathStep) → IsFunction s.program.now g fn → IsAt s.program.now fn.leave (Leave from) → HasLeaf s.program.now fn.leave k a q → (r : ℕ) × (slice_get from k ≡ Some r) × (slice_get (leaves_of fn r) a ≡ Some q)
@@ -179,8 +259,8 @@ module _ (s : System) (t : Tables) (wf : WellFormed s.program.now) (nodes : s.no
               let o = owned target.function (Return i by k q (node i k a)) in
               let z : k ≡ 0 + k = omega arith in
               let fnh = target.inside.fn in
-              let rule = In-left o (hand_rules s.program.now fnh ds target.function i by (length to) (handed_values callee args) ++ returns fnh target.function i by 0 to) (fresh_of s.program.now target.function i by)
-              (In-right o (hand_rules s.program.now fnh ds target.function i by (length to) (handed_values callee args)) (returns fnh target.function i by 0 to) (returns_have fnh target.function i by 0 to k k r.0 z r.1 a q r.2)) in
+              let rule = In-left o (hand_rules s.program.now fnh ds target.function i by (length to) callee args ++ returns fnh target.function i by 0 to) (fresh_of s.program.now target.function i by)
+              (In-right o (hand_rules s.program.now fnh ds target.function i by (length to) callee args) (returns fnh target.function i by 0 to) (returns_have fnh target.function i by 0 to k k r.0 z r.1 a q r.2)) in
               rule_kept s t wf nodes all ds exact same done target.function i target.inside (Call to callee args) target.live at (Return i by k q (node i k a)) rule g takes aimed_here b m.0
               (record { register = v.0; returned = record { fn = fn; is = is; from = l.0; leaves = l.1; value = v.1 }; body = body; row = record { leaf = from.number; at = v.2; row = m.1 } }) row from.column (from.refers m.0 from.number from.leaf m.1);
         }
@@ -213,7 +293,7 @@ module _ (s : System) (t : Tables) (wf : WellFormed s.program.now) (nodes : s.no
               let z : site ≡ length s.program.now.globals + d = omega (arith, own.behind) in
               let o = owned target.function (Fresh i by (node i made.site.result made.site.leaf) site) in
               let listed = fresh_have target.function i by (length s.program.now.globals) (drop (length s.program.now.globals) s.program.now.sites) site d made.site z (get-drop (length s.program.now.globals) s.program.now.sites d ∙ ap (slice_get s.program.now.sites) (sym z) ∙ own.is) own.place in
-              let rule = In-right o (hand_rules s.program.now fnh ds target.function i by (length to) (handed_values callee args) ++ returns fnh target.function i by 0 to) (fresh_of s.program.now target.function i by) listed in
+              let rule = In-right o (hand_rules s.program.now fnh ds target.function i by (length to) callee args ++ returns fnh target.function i by 0 to) (fresh_of s.program.now target.function i by) listed in
               rule_kept s t wf nodes all ds exact same done target.function i target.inside (Call to callee args) target.live at (Fresh i by (node i made.site.result made.site.leaf) site) rule g takes aimed_here b c.0
               (record { fn = fn; is = is; flows = flows; external = ext }) (subst (λ w. IsRow s b (node i w made.site.leaf)) (sym made.result) (subst (λ w. IsRow s b (node i k w)) same_leaf row)) c.1;
         }

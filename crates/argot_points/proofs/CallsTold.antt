@@ -1,7 +1,7 @@
 -- What rules of calls say is so, where the call says it.
 use Rattle.std.proofs.Common.{◌≡◌, ℕ, ◌+◌, ◌<◌, Bool, List, [], Some, refl, sym, ap, ◌∙◌, inl, inr, arith, subst}
 use Rattle.std.specs.Prelude.{◌⊎◌, slice_get, length}
-use Rattle.argot_plain.specs.Code.{Code, IsAt, IsFunction, IsIn, Hands, by_call, by_go, by_defer, arguments, param_of}
+use Rattle.argot_plain.specs.Code.{Code, IsAt, IsFunction, IsIn, Hands, by_call, by_go, by_defer, found_by, GoesTo, arguments, param_of}
 use Rattle.argot_plain.specs.Nodes.{mark, HasLeaf, of_kind, of_entry}
 use Rattle.argot_plain.specs.Outside.{IsResultSite}
 use Rattle.argot_plain.specs.WellFormed.{WellFormed}
@@ -18,9 +18,10 @@ use Rattle.argot_facts.specs.Refers.{Location, Holds, IsLive, Targets, NodeRefer
 use Rattle.argot_facts.specs.declared.pointing.Loc.{Loc}
 use Rattle.argot_facts.proofs.Marked.{register_leaves}
 use Rattle.argot_points_rules.specs.Column.{reference}
-use Rattle.argot_points_rules.specs.declared.rules.Rule.TheVariants.{Aim, Enter, Return, Fresh}
+use Rattle.argot_points_rules.specs.declared.rules.Rule.TheVariants.{Aim, Enter, Choose, Return, Fresh}
 use Rattle.argot_points.specs.declared.system.System.{System}
-use Rattle.argot_points.specs.Meaning.{IsRow, IsColumn, IsCall, NodeTo, Aimed, by_number, by_object, Means, MeansAt, RuleHolds}
+use Rattle.argot_points.specs.Meaning.{IsRow, IsColumn, IsCall, NodeTo, Aimed, by_number, by_object, IsParam, Means, MeansAt, RuleHolds}
+use Rattle.argot_points.proofs.Chosen.{means_selects}
 use Rattle.argot_points.proofs.Called.{value_only, method_only, number_means_none}
 use Rattle.argot_points.proofs.Told.{marked, same_item, refers_of, to_node}
 
@@ -84,18 +85,36 @@ module _ (s : System) (wf : WellFormed s.program.now) (all : s.locations.items �
   pub aim_told : RuleHolds s (Aim i (reference i callee args n))
   aim_told g takes aimed = record { holds = target_is_live i takes (aimed_is g takes aimed) }
 
-  pub enter_told : (k a : ℕ) (q : List PathStep) → HasLeaf s.program.now i (n + k) a q → RuleHolds s (Enter i (reference i callee args n) k q (node i (n + k) a))
-  enter_told k a q has g takes aimed row m y entered is to =
-      let f = refers_of s wf all row y (node i (n + k) a) (mark i (n + k) q) is (marked s.program.now i (n + k) a q has) to in
+  -- a handed value becomes a parameter
+  lands : (k g : ℕ) (takes : Bool) (q : List PathStep) (m y : ℕ) (l : Loc) → Holds s.program.now (Targets i g takes) → GoesTo s.program.now callee args k l.site g → IsParam s i g takes k q m → IsColumn s y l
+      → Holds s.program.now (NodeRefers (mark i (n + k) q) (place_of l)) → NodeTo s m y
+  lands k g takes q m y l targets goes entered column refers =
       let c = this_call entered.taken.callee entered.taken.args entered.taken.behind entered.taken.call in
       let taken : param_of takes (length (arguments callee args)) k ≡ Some entered.param = subst (λ c. param_of takes (length (arguments c args)) k ≡ Some entered.param) c.0 (subst (λ xs. param_of takes (length (arguments entered.taken.callee xs)) k ≡ Some entered.param) c.1 entered.taken.taken) in
       let fn = entered.of.fn in
       let leaf = parameter_leaf g fn entered.param entered.of.row.leaf q entered.of.is entered.of.within entered.of.row.at in
-      to_node s wf all m y (node fn.entry entered.param entered.of.row.leaf) (mark fn.entry entered.param q) f.0 entered.of.row.row (marked s.program.now fn.entry entered.param entered.of.row.leaf q leaf) f.1
-      (param i g n k takes kind callee args fn at hands (aimed_is g takes aimed) taken entered.of.is refl (record { number = entered.of.row.leaf; has = leaf }) f.2)
+      to_node s wf all m y (node fn.entry entered.param entered.of.row.leaf) (mark fn.entry entered.param q) l entered.of.row.row (marked s.program.now fn.entry entered.param entered.of.row.leaf q leaf) column
+      (param i g n k takes kind callee args fn at hands targets taken goes entered.of.is refl (record { number = entered.of.row.leaf; has = leaf }) refers)
     where
       parameter_leaf : (g : ℕ) (fn : Function) (j a : ℕ) (q : List PathStep) → IsFunction s.program.now g fn → j < fn.params → slice_get (leaves_of fn j) a ≡ Some q → HasLeaf s.program.now fn.entry j a q
       parameter_leaf g fn j a q is within e = of_entry g (record { fn = fn; is = is; at = refl }) within (ap (λ x. slice_get x a) (register_leaves s.program.now g fn j is) ∙ e)
+
+  pub enter_told : (k a : ℕ) (q : List PathStep) → (found_by callee args ≡ Some k → ⊥) → HasLeaf s.program.now i (n + k) a q → RuleHolds s (Enter i (reference i callee args n) k q (node i (n + k) a))
+  enter_told k a q other has g takes aimed row m y entered is to =
+      let f = refers_of s wf all row y (node i (n + k) a) (mark i (n + k) q) is (marked s.program.now i (n + k) a q has) to in
+      lands k g takes q m y f.0 (aimed_is g takes aimed) (λ e. absurd (other e)) entered f.1 f.2
+
+  -- and that by which the callee is found does where it selects the function
+  pub choose_told : (k : ℕ) → reference i callee args n ≡ node i (n + k) 0 → HasLeaf s.program.now i (n + k) 0 [] → RuleHolds s (Choose i (reference i callee args n) k)
+  choose_told k e has row y m is to chosen =
+      let f = refers_of s wf all row y (node i (n + k) 0) (mark i (n + k) []) (subst (IsRow s row) e is) (marked s.program.now i (n + k) 0 [] has) to in
+      let g = chosen.by.function in
+      let takes = chosen.by.takes in
+      let c = this_call chosen.callee chosen.there.args chosen.there.behind chosen.there.call in
+      let means = subst (λ c. Means s c y g takes) c.0 chosen.by.means in
+      let aimed : Aimed s (NodeTo s) i (reference i callee args n) g takes = by_object callee args n row y (record { kind = kind; is = at; hands = hands }) is to means in
+      let here = same_item s.locations.items y means.loc f.0 means.is f.1 in
+      lands k g takes [] m y f.0 (aimed_is g takes aimed) (λ _. means_selects s f.0.site callee g takes (subst (λ (x : Loc). MeansAt s x.site callee g takes) here means.means)) chosen.by.param f.1 f.2
 
   module _ (to : List ℕ) (calls : kind ≡ Call to callee args) where
     call_at : IsAt s.program.now i (Call to callee args)

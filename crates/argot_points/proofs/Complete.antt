@@ -123,9 +123,9 @@ module _ (s : System) (t : Tables) (wf : WellFormed s.program.now) (nodes : s.no
   kept _ (global {i = i} {s = site} h to k ident pos inside live at g) = global_kept s t wf nodes all ds exact same done h i inside (kept (IsLive h) live) to k site ident pos at g
   kept _ (assert {i = i} {s = site} {path = path} h d j to from target inside live at def x ok) =
       assert_kept s t wf nodes all ds exact same done h i inside (kept (IsLive h) live) to from target d j site path at def (kept (NodeRefers (mark d j []) (loc site path)) x) ok
-  kept _ (param {e = e} {j = j} {q = q} {x = x} i g n k takes kind callee args fn at hands target taken is first there from) =
+  kept _ (param {e = e} {j = j} {q = q} {x = x} i g n k takes kind callee args fn at hands target taken goes is first there from) =
       subst (λ w. Kept (NodeRefers (mark w j q) x)) (sym first)
-      (param_kept s t wf nodes all ds exact same done i g n k j takes q x kind callee args fn at hands (kept (Targets i g takes) target) taken is (subst (λ w. IsNode s.program.now (mark w j q)) first there) (kept (NodeRefers (mark i (n + k) q) x) from))
+      (param_kept s t wf nodes all ds exact same done i g n k j takes q x kind callee args fn at hands (kept (Targets i g takes) target) taken is (subst (λ w. IsNode s.program.now (mark w j q)) first there) (kept (NodeRefers (mark i (n + k) q) x) from) goes)
   kept _ (result {i = i} {k = k} {q = q} {x = x} g takes to args callee fn at target is body within there from) =
       result_kept s t wf nodes all ds exact same done i g takes to args callee at (kept (Targets i g takes) target) k q x fn is body within there (kept (NodeRefers (mark fn.leave k q) x) from)
   kept _ (fresh_result {i = i} {k = k} {s = site} {q = q} h g r takes flows to args callee fn inside at target is ext reg made) =

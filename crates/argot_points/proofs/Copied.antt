@@ -3,7 +3,7 @@ use Rattle.std.proofs.Common.{◌≡◌, ℕ, zero, suc, ◌+◌, true, List, []
 use Rattle.std.specs.Prelude.{slice_get, length, if◌then◌else◌}
 use Rattle.std.specs.List.{filter_map, cons_option}
 use Rattle.argot_plain.specs.Lists.{In, here, there, below, same_path, without_first}
-use Rattle.argot_plain.specs.Code.{Code, IsAt, IsFunction, IsIn, IsSiteOf, by_call, handed_values, node_registers, leaves, reads, parts_registers}
+use Rattle.argot_plain.specs.Code.{Code, IsAt, IsFunction, IsIn, IsSiteOf, by_call, found_by, handed_values, node_registers, leaves, reads, parts_registers}
 use Rattle.argot_plain.specs.Nodes.{HasLeaf, of_kind, of_items}
 use Rattle.argot_plain.specs.WellFormed.{WellFormed}
 use Rattle.argot_plain.specs.declared.functions.Function.{Function}
@@ -154,7 +154,7 @@ module _ (p : Code) (wf : WellFormed p) (ds : List (ℕ × ℕ × ℕ)) (h i : �
       let rule = register_have p fn ds h i 0 (handed_values callee args) k k r z c.0 a q' own (d, j) m in (
         a,
         own ∙ ap Some c.1,
-        In-left (owned h (Copy (node i k a) (node d j a))) (register_copies p fn ds h i 0 (handed_values callee args) ++ owned h (Aim i by) ∷ []) (enters fn h i by 0 0 (handed_values callee args))
+        In-left (owned h (Copy (node i k a) (node d j a))) (register_copies p fn ds h i 0 (handed_values callee args) ++ owned h (Aim i by) ∷ []) (enters fn h i by 0 (found_by callee args) 0 (handed_values callee args))
             (In-left (owned h (Copy (node i k a) (node d j a))) (register_copies p fn ds h i 0 (handed_values callee args)) (owned h (Aim i by) ∷ []) rule),
       )
   copied_rule (Defer callee args) r d j b q k q' at c m leaf a has =
@@ -164,7 +164,7 @@ module _ (p : Code) (wf : WellFormed p) (ds : List (ℕ × ℕ × ℕ)) (h i : �
       let rule = register_have p fn ds h i 0 (handed_values callee args) k k r z c.0 a q' own (d, j) m in (
         a,
         own ∙ ap Some c.1,
-        In-left (owned h (Copy (node i k a) (node d j a))) (register_copies p fn ds h i 0 (handed_values callee args) ++ owned h (Aim i by) ∷ []) (enters fn h i by 0 0 (handed_values callee args))
+        In-left (owned h (Copy (node i k a) (node d j a))) (register_copies p fn ds h i 0 (handed_values callee args) ++ owned h (Aim i by) ∷ []) (enters fn h i by 0 (found_by callee args) 0 (handed_values callee args))
             (In-left (owned h (Copy (node i k a) (node d j a))) (register_copies p fn ds h i 0 (handed_values callee args)) (owned h (Aim i by) ∷ []) rule),
       )
   copied_rule (Call to callee args) r d j b q k q' at c m leaf a has =
@@ -175,9 +175,9 @@ module _ (p : Code) (wf : WellFormed p) (ds : List (ℕ × ℕ × ℕ)) (h i : �
       let o = owned h (Copy (node i k a) (node d j a)) in (
         a,
         own ∙ ap Some c.3,
-        In-left o (hand_rules p fn ds h i by (length to) (handed_values callee args) ++ returns fn h i by 0 to) (fresh_of p h i by)
-            (In-left o (hand_rules p fn ds h i by (length to) (handed_values callee args)) (returns fn h i by 0 to)
-            (In-left o (register_copies p fn ds h i (length to) (handed_values callee args) ++ owned h (Aim i by) ∷ []) (enters fn h i by (length to) 0 (handed_values callee args))
+        In-left o (hand_rules p fn ds h i by (length to) callee args ++ returns fn h i by 0 to) (fresh_of p h i by)
+            (In-left o (hand_rules p fn ds h i by (length to) callee args) (returns fn h i by 0 to)
+            (In-left o (register_copies p fn ds h i (length to) (handed_values callee args) ++ owned h (Aim i by) ∷ []) (enters fn h i by (length to) (found_by callee args) 0 (handed_values callee args))
             (In-left o (register_copies p fn ds h i (length to) (handed_values callee args)) (owned h (Aim i by) ∷ []) rule))),
       )
   copied_rule (Grow to ref items) r d j b q k q' at c m leaf a has = grown (own_site p i) refl c

@@ -4,7 +4,7 @@ use Rattle.argot_links.specs.Table.{has}
 use Rattle.argot_facts.specs.declared.nodes.Node.{Node}
 use Rattle.argot_points_rules.specs.declared.rules.Owned.{Owned}
 use Rattle.argot_points_rules.specs.declared.rules.Rule.{Rule}
-use Rattle.argot_points_rules.specs.declared.rules.Rule.TheVariants.{Put, Copy, Shift, Keep, Load, Store, Aim, Enter, Return, Fresh}
+use Rattle.argot_points_rules.specs.declared.rules.Rule.TheVariants.{Put, Copy, Shift, Keep, Load, Store, Aim, Enter, Choose, Return, Fresh}
 use Rattle.argot_points.specs.declared.system.System.{System}
 use Rattle.argot_points.specs.declared.system.Tables.{Tables}
 use Rattle.argot_points.specs.Advancing.{Waits, Advances}
@@ -32,6 +32,7 @@ module _ (s : System) (old new : Tables) (grows : Advances s old new) where
   rule_framed (Aim i by) stays quiet c = λ g takes aimed. grows.live g (c g takes (aimed_back i by g takes (quiet by refl) aimed))
   rule_framed (Enter i by k path source) stays quiet c = λ g takes aimed n m param is y h.
       grows.refers m y (c g takes (aimed_back i by g takes (quiet by (inl refl)) aimed) n m param is y (back n y (quiet source (inr refl) n is) h))
+  rule_framed (Choose i by k) stays quiet c = λ n y m is h chosen. grows.refers m y (c n y m is (back n y (quiet by refl n is) h) chosen)
   rule_framed (Return i by k path to) stays quiet c = absurd cc
   rule_framed (Fresh i by to site) stays quiet c = λ g takes aimed n y outside is root. grows.refers n y (c g takes (aimed_back i by g takes (quiet by refl) aimed) n y outside is root)
 

@@ -1,5 +1,5 @@
 -- The same of calls, places and functions; and the definitions of a place.
-use Rattle.std.proofs.Common.{◌≡◌, ℕ, zero, suc, ◌+◌, ◌-◌, ◌<◌, ◌≤◌, List, [], ◌∷◌, Some, None, Option, refl, sym, ap, ◌∙◌, inl, inr, arith, subst, eqb-true, eq-eqb}
+use Rattle.std.proofs.Common.{◌≡◌, Bool, true, false, ℕ, zero, suc, ◌+◌, ◌-◌, ◌<◌, ◌≤◌, List, [], ◌∷◌, Some, None, Option, refl, sym, ap, ◌∙◌, inl, inr, arith, subst, eqb-true, eq-eqb}
 use Rattle.std.specs.Prelude.{slice_get, ◌==◌, if◌then◌else◌}
 use Rattle.std.proofs.lemmas.Bool.{cases_eq}
 use Rattle.argot_plain.specs.Lists.{In, here, there}
@@ -11,8 +11,8 @@ use Rattle.argot_text.specs.declared.path.PathStep.{PathStep}
 use Rattle.argot_facts.specs.Numbers.{node, leaves_of}
 use Rattle.argot_facts.specs.declared.nodes.Node.{Node}
 use Rattle.argot_points_rules.specs.declared.rules.Owned.{Owned}
-use Rattle.argot_points_rules.specs.declared.rules.Rule.TheVariants.{Enter, Return, Fresh}
-use Rattle.argot_points_rules.specs.Column.{owned, enter_leaves, enters, return_leaves, returns, fresh_from, positions, kind_rules, optional_rules, place_rules, function_rules}
+use Rattle.argot_points_rules.specs.declared.rules.Rule.TheVariants.{Enter, Choose, Return, Fresh}
+use Rattle.argot_points_rules.specs.Column.{owned, enter_leaves, is_value, enters, return_leaves, returns, fresh_from, positions, kind_rules, optional_rules, place_rules, function_rules}
 use Rattle.argot_points.proofs.Each.{In-append, In-left, In-right, In-if, if-In, one-In}
 
 pub each_enter_leaves : (P : Owned → Type 0) (o : Owned) (h i : ℕ) (by : Node) (n k a : ℕ) (qs : List (List PathStep)) → In o (enter_leaves h i by n k a qs)
@@ -26,21 +26,49 @@ enter_leaves_have h i by n k a [] c b q e g = absurd cc
 enter_leaves_have h i by n k a (p ∷ qs) c zero q e g = let z : c ≡ a = omega (arith, e) in let y : q ≡ p = cc in here (ap (λ w. owned h (Enter i by k q (node i (n + k) w))) z ∙ ap (λ w. owned h (Enter i by k w (node i (n + k) a))) y)
 enter_leaves_have h i by n k a (p ∷ qs) c (suc b) q e g = there (enter_leaves_have h i by n k (a + 1) qs c b q (omega (arith, e)) g)
 
-pub each_enters : (P : Owned → Type 0) (o : Owned) (fn : Function) (h i : ℕ) (by : Node) (n k : ℕ) (rs : List ℕ) → In o (enters fn h i by n k rs)
-    → ((l j r : ℕ) → l ≡ k + j → slice_get rs j ≡ Some r → (a : ℕ) (q : List PathStep) → slice_get (leaves_of fn r) a ≡ Some q → P (owned h (Enter i by l q (node i (n + l) a)))) → P o
-each_enters P o fn h i by n k [] m f = elim m [ ]
-each_enters P o fn h i by n k (r ∷ rs) m f = elim (In-append o (enter_leaves h i by n k 0 (leaves_of fn r)) (enters fn h i by n (k + 1) rs) m) [
-  | inl l ↦ each_enter_leaves P o h i by n k 0 (leaves_of fn r) l (λ c b q e g. let z : b ≡ c = omega (arith, e) in f k 0 r (omega arith) refl c q (subst (λ w. slice_get (leaves_of fn r) w ≡ Some q) z g))
-  | inr l ↦ each_enters P o fn h i by n (k + 1) rs l (λ l j r e g. f l (suc j) r (omega (arith, e)) g)
+pub each_enters : (P : Owned → Type 0) (o : Owned) (fn : Function) (h i : ℕ) (by : Node) (n : ℕ) (v : Option ℕ) (k : ℕ) (rs : List ℕ) → In o (enters fn h i by n v k rs)
+    → ((l j r : ℕ) → l ≡ k + j → slice_get rs j ≡ Some r → is_value v l ≡ false → (a : ℕ) (q : List PathStep) → slice_get (leaves_of fn r) a ≡ Some q → P (owned h (Enter i by l q (node i (n + l) a))))
+    → ((l j r : ℕ) → l ≡ k + j → slice_get rs j ≡ Some r → is_value v l ≡ true → P (owned h (Choose i by l))) → P o
+each_enters P o fn h i by n v k [] m f g = elim m [ ]
+each_enters P o fn h i by n v k (r ∷ rs) m f g = elim (In-append o (if is_value v k then owned h (Choose i by k) ∷ [] else enter_leaves h i by n k 0 (leaves_of fn r)) (enters fn h i by n v (k + 1) rs) m) [
+  | inl l ↦ first (is_value v k) refl l
+  | inr l ↦ each_enters P o fn h i by n v (k + 1) rs l (λ l j r e t. f l (suc j) r (omega (arith, e)) t) (λ l j r e t. g l (suc j) r (omega (arith, e)) t)
 ]
+  where
+    first : (b : Bool) → is_value v k ≡ b → In o (if b then owned h (Choose i by k) ∷ [] else enter_leaves h i by n k 0 (leaves_of fn r)) → P o
+    first true e l = subst P (sym (one-In o (owned h (Choose i by k)) l)) (g k 0 r (omega arith) refl e)
+    first false e l = each_enter_leaves P o h i by n k 0 (leaves_of fn r) l (λ c b q d t. let z : b ≡ c = omega (arith, d) in f k 0 r (omega arith) refl e c q (subst (λ w. slice_get (leaves_of fn r) w ≡ Some q) z t))
 
-pub enters_have : (fn : Function) (h i : ℕ) (by : Node) (n k : ℕ) (rs : List ℕ) (l j r : ℕ) → l ≡ k + j → slice_get rs j ≡ Some r → (a : ℕ) (q : List PathStep) → slice_get (leaves_of fn r) a ≡ Some q → In (owned h (Enter i by l q (node i (n + l) a))) (enters fn h i by n k rs)
-enters_have fn h i by n k [] l j r e g a q s = absurd cc
-enters_have fn h i by n k (t ∷ rs) l zero r e g a q s =
-    let z : k ≡ l = omega (arith, e) in let y : t ≡ r = cc in
-    In-left (owned h (Enter i by l q (node i (n + l) a))) (enter_leaves h i by n k 0 (leaves_of fn t)) (enters fn h i by n (k + 1) rs)
-    (subst (λ w. In (owned h (Enter i by w q (node i (n + w) a))) (enter_leaves h i by n k 0 (leaves_of fn t))) z (enter_leaves_have h i by n k 0 (leaves_of fn t) a a q (omega arith) (subst (λ w. slice_get (leaves_of fn w) a ≡ Some q) (sym y) s)))
-enters_have fn h i by n k (t ∷ rs) l (suc j) r e g a q s = In-right (owned h (Enter i by l q (node i (n + l) a))) (enter_leaves h i by n k 0 (leaves_of fn t)) (enters fn h i by n (k + 1) rs) (enters_have fn h i by n (k + 1) rs l j r (omega (arith, e)) g a q s)
+enter_there : (o : Owned) (xs ys : List Owned) (b : Bool) → b ≡ false → In o ys → In o (if b then xs else ys)
+enter_there o xs ys true e m = absurd cc
+enter_there o xs ys false e m = m
+
+pub enters_have : (fn : Function) (h i : ℕ) (by : Node) (n : ℕ) (v : Option ℕ) (k : ℕ) (rs : List ℕ) (l j r : ℕ) → l ≡ k + j → slice_get rs j ≡ Some r → is_value v l ≡ false → (a : ℕ) (q : List PathStep) → slice_get (leaves_of fn r) a ≡ Some q
+    → In (owned h (Enter i by l q (node i (n + l) a))) (enters fn h i by n v k rs)
+enters_have fn h i by n v k [] l j r e g t a q s = absurd cc
+enters_have fn h i by n v k (x ∷ rs) l zero r e g t a q s =
+    let z : k ≡ l = omega (arith, e) in let y : x ≡ r = cc in
+    let o = owned h (Enter i by l q (node i (n + l) a)) in
+    In-left o (if is_value v k then owned h (Choose i by k) ∷ [] else enter_leaves h i by n k 0 (leaves_of fn x)) (enters fn h i by n v (k + 1) rs)
+    (enter_there o (owned h (Choose i by k) ∷ []) (enter_leaves h i by n k 0 (leaves_of fn x)) (is_value v k) (ap (is_value v) z ∙ t)
+    (subst (λ w. In (owned h (Enter i by w q (node i (n + w) a))) (enter_leaves h i by n k 0 (leaves_of fn x))) z (enter_leaves_have h i by n k 0 (leaves_of fn x) a a q (omega arith) (subst (λ w. slice_get (leaves_of fn w) a ≡ Some q) (sym y) s))))
+enters_have fn h i by n v k (x ∷ rs) l (suc j) r e g t a q s =
+    In-right (owned h (Enter i by l q (node i (n + l) a))) (if is_value v k then owned h (Choose i by k) ∷ [] else enter_leaves h i by n k 0 (leaves_of fn x)) (enters fn h i by n v (k + 1) rs)
+    (enters_have fn h i by n v (k + 1) rs l j r (omega (arith, e)) g t a q s)
+
+choose_there : (o : Owned) (xs ys : List Owned) (b : Bool) → b ≡ true → In o xs → In o (if b then xs else ys)
+choose_there o xs ys true e m = m
+choose_there o xs ys false e m = absurd cc
+
+pub chooses_have : (fn : Function) (h i : ℕ) (by : Node) (n : ℕ) (v : Option ℕ) (k : ℕ) (rs : List ℕ) (l j r : ℕ) → l ≡ k + j → slice_get rs j ≡ Some r → is_value v l ≡ true → In (owned h (Choose i by l)) (enters fn h i by n v k rs)
+chooses_have fn h i by n v k [] l j r e g t = absurd cc
+chooses_have fn h i by n v k (x ∷ rs) l zero r e g t =
+    let z : k ≡ l = omega (arith, e) in
+    In-left (owned h (Choose i by l)) (if is_value v k then owned h (Choose i by k) ∷ [] else enter_leaves h i by n k 0 (leaves_of fn x)) (enters fn h i by n v (k + 1) rs)
+    (choose_there (owned h (Choose i by l)) (owned h (Choose i by k) ∷ []) (enter_leaves h i by n k 0 (leaves_of fn x)) (is_value v k) (ap (is_value v) z ∙ t) (here (ap (λ w. owned h (Choose i by w)) (sym z))))
+chooses_have fn h i by n v k (x ∷ rs) l (suc j) r e g t =
+    In-right (owned h (Choose i by l)) (if is_value v k then owned h (Choose i by k) ∷ [] else enter_leaves h i by n k 0 (leaves_of fn x)) (enters fn h i by n v (k + 1) rs)
+    (chooses_have fn h i by n v (k + 1) rs l j r (omega (arith, e)) g t)
 
 pub each_return_leaves : (P : Owned → Type 0) (o : Owned) (h i : ℕ) (by : Node) (k a : ℕ) (qs : List (List PathStep)) → In o (return_leaves h i by k a qs)
     → ((c b : ℕ) (q : List PathStep) → c ≡ a + b → slice_get qs b ≡ Some q → P (owned h (Return i by k q (node i k c)))) → P o

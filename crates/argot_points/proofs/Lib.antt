@@ -5,6 +5,7 @@ pub mod Sound
 pub mod Each
 pub mod Pieces
 pub mod Handed
+pub mod Chosen
 pub mod Defined
 pub mod Told
 pub mod CallsTold

@@ -2,9 +2,10 @@
 use Rattle.std.proofs.Common.{◌≡◌, ℕ, List, [], ◌∷◌, ◌++◌, Some, None, Option, drop, refl, ap, inl, inr}
 use Rattle.std.specs.Prelude.{slice_get, length}
 use Rattle.argot_plain.specs.Lists.{In}
-use Rattle.argot_plain.specs.Code.{Code, handed_values}
+use Rattle.argot_plain.specs.Code.{Code, found_by, handed_values}
 use Rattle.argot_plain.specs.declared.functions.Function.{Function}
 use Rattle.argot_plain.specs.declared.functions.Ident.{Ident}
+use Rattle.argot_plain.specs.declared.instructions.Callee.{Callee}
 use Rattle.argot_plain.specs.declared.instructions.Kind.{Kind}
 use Rattle.argot_plain.specs.declared.instructions.Kind.TheVariants.{Move, Join, New, Step, Read, Write, Grow, Global, Assert, Call, Go, Defer, Leave, Passed}
 use Rattle.argot_text.specs.declared.position.Pos.{Pos}
@@ -53,19 +54,19 @@ module _ (p : Code) (ds : List (ℕ × ℕ × ℕ)) (h i : ℕ) (fn : Function) 
         | inr l ↦ each_value_stores Its o h i 1 0 shape ((i, 0) ∷ []) l (λ c b q e g x y. refl)
       ]
 
-  hand_own : (by : Node) (n : ℕ) (values : List ℕ) (o : Owned) → In o (hand_rules p fn ds h i by n values) → Its o
-  hand_own by n values o m = elim (In-append o (register_copies p fn ds h i n values ++ owned h (Aim i by) ∷ []) (enters fn h i by n 0 values) m) [
-    | inl l ↦ elim (In-append o (register_copies p fn ds h i n values) (owned h (Aim i by) ∷ []) l) [
-      | inl l ↦ registers_own n values o l
+  hand_own : (by : Node) (n : ℕ) (callee : Callee) (args : List ℕ) (o : Owned) → In o (hand_rules p fn ds h i by n callee args) → Its o
+  hand_own by n callee args o m = elim (In-append o (register_copies p fn ds h i n (handed_values callee args) ++ owned h (Aim i by) ∷ []) (enters fn h i by n (found_by callee args) 0 (handed_values callee args)) m) [
+    | inl l ↦ elim (In-append o (register_copies p fn ds h i n (handed_values callee args)) (owned h (Aim i by) ∷ []) l) [
+      | inl l ↦ registers_own n (handed_values callee args) o l
       | inr l ↦ ap (λ (o : Owned). o.function) (one-In o (owned h (Aim i by)) l)
     ]
-    | inr l ↦ each_enters Its o fn h i by n 0 values l (λ l j r e g a q lf. refl)
+    | inr l ↦ each_enters Its o fn h i by n (found_by callee args) 0 (handed_values callee args) l (λ l j r e g t a q lf. refl) (λ l j r e g t. refl)
   ]
 
-  call_own : (by : Node) (to values : List ℕ) (o : Owned) → In o ((hand_rules p fn ds h i by (length to) values ++ returns fn h i by 0 to) ++ fresh_of p h i by) → Its o
-  call_own by to values o m = elim (In-append o (hand_rules p fn ds h i by (length to) values ++ returns fn h i by 0 to) (fresh_of p h i by) m) [
-    | inl l ↦ elim (In-append o (hand_rules p fn ds h i by (length to) values) (returns fn h i by 0 to) l) [
-      | inl l ↦ hand_own by (length to) values o l
+  call_own : (by : Node) (to : List ℕ) (callee : Callee) (args : List ℕ) (o : Owned) → In o ((hand_rules p fn ds h i by (length to) callee args ++ returns fn h i by 0 to) ++ fresh_of p h i by) → Its o
+  call_own by to callee args o m = elim (In-append o (hand_rules p fn ds h i by (length to) callee args ++ returns fn h i by 0 to) (fresh_of p h i by) m) [
+    | inl l ↦ elim (In-append o (hand_rules p fn ds h i by (length to) callee args) (returns fn h i by 0 to) l) [
+      | inl l ↦ hand_own by (length to) callee args o l
       | inr l ↦ each_returns Its o fn h i by 0 to l (λ l j r e g a q lf. refl)
     ]
     | inr l ↦ each_fresh Its o h i by (length p.globals) (drop (length p.globals) p.sites) l (λ n b site e g k. refl)
@@ -84,9 +85,9 @@ module _ (p : Code) (ds : List (ℕ × ℕ × ℕ)) (h i : ℕ) (fn : Function) 
   rule_owner (Grow to ref items) o m = grow_own ref items (own_site p i) o m
   rule_owner (Global to k) o m = variable_own (slice_get p.globals k) o m
   rule_owner (Assert to from target) o m = each_keeps Its o h (node i 0 0) target (definitions p fn i from ds) m (λ x y. refl)
-  rule_owner (Call to callee args) o m = call_own (reference i callee args (length to)) to (handed_values callee args) o m
-  rule_owner (Go callee args) o m = hand_own (reference i callee args 0) 0 (handed_values callee args) o m
-  rule_owner (Defer callee args) o m = hand_own (reference i callee args 0) 0 (handed_values callee args) o m
+  rule_owner (Call to callee args) o m = call_own (reference i callee args (length to)) to callee args o m
+  rule_owner (Go callee args) o m = hand_own (reference i callee args 0) 0 callee args o m
+  rule_owner (Defer callee args) o m = hand_own (reference i callee args 0) 0 callee args o m
   rule_owner (Leave from) o m = registers_own 0 from o m
   rule_owner (Passed to callee) o m = registers_own 0 (to ∷ []) o m
   rule_owner _ o m = elim m [ ]

@@ -44,7 +44,7 @@ module _ (p : Code) (wf : WellFormed p) where
   sent m x kind callee args n at hands low (grow_copy {i = i} h to r items inside live is t) = absurd (elim (subst (λ c. Hands c callee args n) (same_kind p i kind (Grow to r items) at is) hands) [ ])
   sent m x kind callee args n at hands low (global {i = i} h to k ident pos inside live is g) = absurd (elim (subst (λ c. Hands c callee args n) (same_kind p i kind (Global to k) at is) hands) [ ])
   sent m x kind callee args n at hands low (assert {i = i} h d j to from target inside live is def t ok) = absurd (elim (subst (λ c. Hands c callee args n) (same_kind p i kind (Assert to from target) at is) hands) [ ])
-  sent m x kind callee args n at hands low (param {e = e} i g b k takes c ce vs fn is hs target taken isf first node t) = absurd (never fn.external refl)
+  sent m x kind callee args n at hands low (param {e = e} i g b k takes c ce vs fn is hs target taken goes isf first node t) = absurd (never fn.external refl)
     where
       goes_on : (target : ℕ) → IsAt p fn.entry (Goto target) → ⊥
       goes_on target h = elim (subst (λ c. Hands c callee args n) (same_kind p fn.entry kind (Goto target) (subst (λ c. IsAt p c kind) first at) h) hands) [ ]

@@ -19,7 +19,7 @@ use Rattle.argot_facts.specs.declared.nodes.Node.{Node}
 use Rattle.argot_facts.specs.declared.pointing.Loc.{Loc}
 use Rattle.argot_points_rules.specs.declared.rules.Owned.{Owned}
 use Rattle.argot_points_rules.specs.declared.rules.Rule.{Rule}
-use Rattle.argot_points_rules.specs.declared.rules.Rule.TheVariants.{Put, Copy, Shift, Keep, Load, Store, Aim, Enter, Return, Fresh}
+use Rattle.argot_points_rules.specs.declared.rules.Rule.TheVariants.{Put, Copy, Shift, Keep, Load, Store, Aim, Enter, Choose, Return, Fresh}
 use Rattle.argot_points.specs.declared.system.System.{System}
 
 -- the node with this number
@@ -139,6 +139,19 @@ pub record IsParam (s : System) (i g : ℕ) (takes : Bool) (k : ℕ) (path : Lis
   pub taken : IsTaken s i takes k param
   pub of : IsParamOf s g param path m
 
+-- by the location y, at which the callee means a function, the handed value k of the place becomes the node number m: the leaf
+-- with the empty path of a parameter of that function
+pub record IsChosenBy (s : System) (callee : Callee) (i k y m : ℕ) : Type 0 where
+  pub function : ℕ
+  pub takes : Bool
+  pub means : Means s callee y function takes
+  pub param : IsParam s i function takes k [] m
+
+pub record IsChosen (s : System) (i k y m : ℕ) : Type 0 where
+  pub callee : Callee
+  pub there : HasCallee s.program.now i callee
+  pub by : IsChosenBy s callee i k y m
+
 -- the function g hands back the register as the value of index k
 pub record IsReturned (s : System) (g k register : ℕ) : Type 0 where
   pub fn : Function
@@ -179,6 +192,7 @@ RuleHolds s (Load to at path) = (n m : ℕ) → IsRow s n to → IsRow s m at �
 RuleHolds s (Store at path source) = (n m : ℕ) → IsRow s n source → IsRow s m at → (y : ℕ) → NodeTo s m y → (z : ℕ) → IsMoved s y path z → (w : ℕ) → NodeTo s n w → PlaceTo s z w
 RuleHolds s (Aim i by) = (g : ℕ) (takes : Bool) → Aimed s (NodeTo s) i by g takes → HandHolds s (Aim i by) g takes
 RuleHolds s (Enter i by k path source) = (g : ℕ) (takes : Bool) → Aimed s (NodeTo s) i by g takes → HandHolds s (Enter i by k path source) g takes
+RuleHolds s (Choose i by k) = (n y m : ℕ) → IsRow s n by → NodeTo s n y → IsChosen s i k y m → NodeTo s m y
 RuleHolds s (Return i by k path to) = (g : ℕ) (takes : Bool) → Aimed s (NodeTo s) i by g takes → HandHolds s (Return i by k path to) g takes
 RuleHolds s (Fresh i by to site) = (g : ℕ) (takes : Bool) → Aimed s (NodeTo s) i by g takes → HandHolds s (Fresh i by to site) g takes
 

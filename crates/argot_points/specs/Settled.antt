@@ -4,7 +4,7 @@ use Rattle.argot_links.specs.Members.{has as contains}
 use Rattle.argot_facts.specs.declared.nodes.Node.{Node}
 use Rattle.argot_points_rules.specs.declared.rules.Owned.{Owned}
 use Rattle.argot_points_rules.specs.declared.rules.Rule.{Rule}
-use Rattle.argot_points_rules.specs.declared.rules.Rule.TheVariants.{Put, Copy, Shift, Keep, Load, Store, Aim, Enter, Return, Fresh}
+use Rattle.argot_points_rules.specs.declared.rules.Rule.TheVariants.{Put, Copy, Shift, Keep, Load, Store, Aim, Enter, Choose, Return, Fresh}
 use Rattle.argot_points.specs.declared.system.System.{System}
 use Rattle.argot_points.specs.declared.system.Tables.{Tables}
 use Rattle.argot_points.specs.Advancing.{Waits}
@@ -27,6 +27,7 @@ LooksAt (Load to at path) a = ⊥
 LooksAt (Store at path source) a = (a ≡ at) ⊎ (a ≡ source)
 LooksAt (Aim i by) a = a ≡ by
 LooksAt (Enter i by k path source) a = (a ≡ by) ⊎ (a ≡ source)
+LooksAt (Choose i by k) a = a ≡ by
 LooksAt (Return i by k path to) a = ⊥
 LooksAt (Fresh i by to site) a = a ≡ by
 

@@ -8,10 +8,10 @@ use Rattle.argot_facts.specs.declared.nodes.Node.{Node}
 use Rattle.argot_facts.specs.declared.pointing.Loc.{Loc}
 use Rattle.argot_points_rules.specs.declared.rules.Owned.{Owned}
 use Rattle.argot_points_rules.specs.declared.rules.Rule.{Rule}
-use Rattle.argot_points_rules.specs.declared.rules.Rule.TheVariants.{Put, Copy, Shift, Keep, Load, Store, Aim, Enter, Return, Fresh}
+use Rattle.argot_points_rules.specs.declared.rules.Rule.TheVariants.{Put, Copy, Shift, Keep, Load, Store, Aim, Enter, Choose, Return, Fresh}
 use Rattle.argot_points.specs.declared.system.System.{System}
 use Rattle.argot_points.specs.declared.system.Tables.{Tables}
-use Rattle.argot_points.specs.Meaning.{IsRow, NodeTo, PlaceTo, LiveAt, IsMoved, IsKept, IsRoot, Aimed, IsParam, IsHanded, IsOutside}
+use Rattle.argot_points.specs.Meaning.{IsRow, NodeTo, PlaceTo, LiveAt, IsMoved, IsKept, IsRoot, Aimed, IsParam, IsChosen, IsHanded, IsOutside}
 
 -- the numbers are those of an ordered list of nodes, and of a list of distinct locations, site by site; there are few of both
 pub record Fits (s : System) : Type 0 where
@@ -76,6 +76,7 @@ ClosedUnder s t (Load to at path) = (n m : ℕ) → IsRow s n to → IsRow s m a
 ClosedUnder s t (Store at path source) = (n m : ℕ) → IsRow s n source → IsRow s m at → (y : ℕ) → has t.refers m y ≡ true → (z : ℕ) → IsMoved s y path z → IsPart t.refers n (place_row s z)
 ClosedUnder s t (Aim i by) = (g : ℕ) (takes : Bool) → Aimed s (Refers t) i by g takes → HandClosed s t (Aim i by) g takes
 ClosedUnder s t (Enter i by k path source) = (g : ℕ) (takes : Bool) → Aimed s (Refers t) i by g takes → HandClosed s t (Enter i by k path source) g takes
+ClosedUnder s t (Choose i by k) = (n y m : ℕ) → IsRow s n by → has t.refers n y ≡ true → IsChosen s i k y m → has t.refers m y ≡ true
 ClosedUnder s t (Return i by k path to) = (g : ℕ) (takes : Bool) → Aimed s (Refers t) i by g takes → HandClosed s t (Return i by k path to) g takes
 ClosedUnder s t (Fresh i by to site) = (g : ℕ) (takes : Bool) → Aimed s (Refers t) i by g takes → HandClosed s t (Fresh i by to site) g takes
 

@@ -21,7 +21,7 @@ fn leaf_path(leaves: &[Path], leaf: u32) -> &Path
 }
 
 /// Whether the leaf has the path.
-fn is_leaf(leaves: &[Path], leaf: u32, path: &[PathStep]) -> bool
+pub(crate) fn is_leaf(leaves: &[Path], leaf: u32, path: &[PathStep]) -> bool
     requires { leaf < length leaves.now }
     ensures yes { result ≡ true → slice_get leaves.now leaf ≡ Some path.now }
     ensures no { slice_get leaves.now leaf ≡ Some path.now → result ≡ true }

@@ -12,6 +12,7 @@
 mod aiming;
 mod answer;
 mod calls;
+mod choosing;
 mod hands;
 mod leaves;
 mod moves;

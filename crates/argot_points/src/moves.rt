@@ -11,7 +11,7 @@ use argot_facts::Node;
 use argot_text::PathStep;
 
 /// The node of a row refers to the location y.
-fn add_to_row(system: &System, tables: &mut Tables, row: u32, y: u32) -> bool
+pub(crate) fn add_to_row(system: &System, tables: &mut Tables, row: u32, y: u32) -> bool
     requires fits { Fits system.now }
     requires row { row < length system.now.nodes.items }
     requires column { y < length system.now.locations.items }

@@ -8,6 +8,7 @@ ghost use Rattle.argot_points.specs.Advancing.{Advances};
 ghost use Rattle.argot_points.specs.Meaning.{RuleHolds, RulesHold};
 ghost use Rattle.argot_points.specs.Solved.{Fits, HasSize, IsSound, ClosedUnder, IsDone, AllDone, room_of};
 
+use crate::choosing::choose;
 use crate::moves::{copy, keep, load, put, shift, store};
 use crate::system::{System, Tables};
 use crate::targets::call;
@@ -34,6 +35,7 @@ pub(crate) fn follow(system: &System, tables: &mut Tables, rule: &Rule) -> bool
         Rule::Store { at, path, source } => store(system, tables, *at, path.as_slice(), *source),
         Rule::Aim { place, by } => call(system, tables, rule, *place, *by),
         Rule::Enter { place, by, .. } => call(system, tables, rule, *place, *by),
+        Rule::Choose { place, by, index } => choose(system, tables, *place, *by, *index),
         Rule::Return { place, by, .. } => call(system, tables, rule, *place, *by),
         Rule::Fresh { place, by, .. } => call(system, tables, rule, *place, *by),
     }

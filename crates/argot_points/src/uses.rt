@@ -69,6 +69,7 @@ fn note_rows(system: &System, uses: &mut Chains, rule: &Rule, k: u32)
         Rule::Store { at, source, .. } => note_both(system, uses, *at, *source, k),
         Rule::Aim { by, .. } => note_node(system, uses, *by, k),
         Rule::Enter { by, source, .. } => note_both(system, uses, *by, *source, k),
+        Rule::Choose { by, .. } => note_node(system, uses, *by, k),
         Rule::Fresh { by, .. } => note_node(system, uses, *by, k),
         _ => {}
     }

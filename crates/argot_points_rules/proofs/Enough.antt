@@ -13,6 +13,7 @@ use Rattle.std.proofs.lemmas.List.Sorted.{IsNonDecreasingBy-from_all_adjacent}
 use Rattle.std.proofs.lemmas.Map.Keys.{le_from_is_le}
 use Rattle.std.proofs.Math.Dec.{leb, ltb}
 use Rattle.argot_plain.specs.Code.{Code, handed_values}
+use Rattle.argot_plain.specs.declared.instructions.Callee.{Callee}
 use Rattle.argot_plain.specs.declared.functions.Function.{Function}
 use Rattle.argot_plain.specs.declared.instructions.Kind.{Kind}
 use Rattle.argot_plain.specs.declared.instructions.Kind.TheVariants as kinds
@@ -65,8 +66,8 @@ grow_same : (p : Code) (fn : Function) (ds es : List (ℕ × ℕ × ℕ)) (h i a
 grow_same p fn ds es h i at items None e = refl
 grow_same p fn ds es h i at items (Some s) e = rw (e p fn at, items_same p fn ds es h i (shape_at p (Some s)) items e) refl
 
-hand_same : (p : Code) (fn : Function) (ds es : List (ℕ × ℕ × ℕ)) (h i : ℕ) (by : Node) (n : ℕ) (values : List ℕ) → AreEnough ds es i → hand_rules p fn es h i by n values ≡ hand_rules p fn ds h i by n values
-hand_same p fn ds es h i by n values e = rw (registers_same p fn ds es h i n values e) refl
+hand_same : (p : Code) (fn : Function) (ds es : List (ℕ × ℕ × ℕ)) (h i : ℕ) (by : Node) (n : ℕ) (callee : Callee) (args : List ℕ) → AreEnough ds es i → hand_rules p fn es h i by n callee args ≡ hand_rules p fn ds h i by n callee args
+hand_same p fn ds es h i by n callee args e = rw (registers_same p fn ds es h i n (handed_values callee args) e) refl
 
 -- the rules of an instruction are the same
 pub kind_same : (p : Code) (fn : Function) (ds es : List (ℕ × ℕ × ℕ)) (h i : ℕ) (kind : Kind) → AreEnough ds es i → kind_rules p fn es h i kind ≡ kind_rules p fn ds h i kind
@@ -79,9 +80,9 @@ kind_same p fn ds es h i (kinds.Write at from) e = rw (e p fn at, e p fn from) r
 kind_same p fn ds es h i (kinds.Grow to at items) e = grow_same p fn ds es h i at items (own_site p i) e
 kind_same p fn ds es h i (kinds.Global to k) e = refl
 kind_same p fn ds es h i (kinds.Assert to from target) e = ap (λ found. keeps h (node i 0 0) target found) (e p fn from)
-kind_same p fn ds es h i (kinds.Call to callee args) e = rw (hand_same p fn ds es h i (reference i callee args (length to)) (length to) (handed_values callee args) e) refl
-kind_same p fn ds es h i (kinds.Go callee args) e = hand_same p fn ds es h i (reference i callee args 0) 0 (handed_values callee args) e
-kind_same p fn ds es h i (kinds.Defer callee args) e = hand_same p fn ds es h i (reference i callee args 0) 0 (handed_values callee args) e
+kind_same p fn ds es h i (kinds.Call to callee args) e = rw (hand_same p fn ds es h i (reference i callee args (length to)) (length to) callee args e) refl
+kind_same p fn ds es h i (kinds.Go callee args) e = hand_same p fn ds es h i (reference i callee args 0) 0 callee args e
+kind_same p fn ds es h i (kinds.Defer callee args) e = hand_same p fn ds es h i (reference i callee args 0) 0 callee args e
 kind_same p fn ds es h i (kinds.Leave from) e = registers_same p fn ds es h i 0 from e
 kind_same p fn ds es h i (kinds.Passed to callee) e = registers_same p fn ds es h i 0 (to ∷ []) e
 kind_same p fn ds es h i (kinds.Op to from) e = refl

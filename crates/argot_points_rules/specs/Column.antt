@@ -1,8 +1,8 @@
 -- What each instruction asks of the points-to relation: its rules, kind by kind. The places of a function read what its
 -- definitions put, each known by its place and the index of its result.
-use Rattle.std.specs.Prelude.{ℕ, zero, suc, ◌+◌, ◌-◌, ◌==◌, ◌&&◌, nat_lt, List, [], ◌∷◌, ◌++◌, Option, Some, None, length, drop, slice_get, if◌then◌else◌}
+use Rattle.std.specs.Prelude.{ℕ, Bool, false, zero, suc, ◌+◌, ◌-◌, ◌==◌, ◌&&◌, nat_lt, List, [], ◌∷◌, ◌++◌, Option, Some, None, length, drop, slice_get, if◌then◌else◌}
 use Rattle.argot_plain.specs.Lists.{same_path}
-use Rattle.argot_plain.specs.Code.{Code, kind_of, defined, handed_values}
+use Rattle.argot_plain.specs.Code.{Code, kind_of, defined, found_by, handed_values}
 use Rattle.argot_plain.specs.Machine.{is_covered}
 use Rattle.argot_plain.specs.declared.functions.Function.{Function}
 use Rattle.argot_plain.specs.declared.functions.Ident.{Ident}
@@ -17,7 +17,7 @@ use Rattle.argot_facts.specs.Numbers.{node, leaves_of, own_site, shape_at}
 use Rattle.argot_facts.specs.declared.nodes.Node.{Node}
 use Rattle.argot_points_rules.specs.declared.rules.Owned.{Owned}
 use Rattle.argot_points_rules.specs.declared.rules.Rule.{Rule}
-use Rattle.argot_points_rules.specs.declared.rules.Rule.TheVariants.{Put, Copy, Shift, Keep, Load, Store, Aim, Enter, Return, Fresh}
+use Rattle.argot_points_rules.specs.declared.rules.Rule.TheVariants.{Put, Copy, Shift, Keep, Load, Store, Aim, Enter, Choose, Return, Fresh}
 
 abbrev pub owned : ℕ → Rule → Owned
 owned h r = record { function = h; rule = r }
@@ -130,9 +130,16 @@ abbrev pub enter_leaves : ℕ → ℕ → Node → ℕ → ℕ → ℕ → List 
 enter_leaves h i by n k a [] = []
 enter_leaves h i by n k a (q ∷ qs) = owned h (Enter i by k q (node i (n + k) a)) ∷ enter_leaves h i by n k (a + 1) qs
 
-abbrev pub enters : Function → ℕ → ℕ → Node → ℕ → ℕ → List ℕ → List Owned
-enters fn h i by n k [] = []
-enters fn h i by n k (r ∷ rs) = enter_leaves h i by n k 0 (leaves_of fn r) ++ enters fn h i by n (k + 1) rs
+-- whether this is the handed value k
+abbrev pub is_value : Option ℕ → ℕ → Bool
+is_value None k = false
+is_value (Some c) k = c == k
+
+-- value by value, with their indices from k on; of the value c, by which the callee is found, targets get what selects them
+abbrev pub enters : Function → ℕ → ℕ → Node → ℕ → Option ℕ → ℕ → List ℕ → List Owned
+enters fn h i by n c k [] = []
+enters fn h i by n c k (r ∷ rs) =
+    (if is_value c k then owned h (Choose i by k) ∷ [] else enter_leaves h i by n k 0 (leaves_of fn r)) ++ enters fn h i by n c (k + 1) rs
 
 abbrev pub return_leaves : ℕ → ℕ → Node → ℕ → ℕ → List (List PathStep) → List Owned
 return_leaves h i by k a [] = []
@@ -150,8 +157,10 @@ fresh_from h i by s (site ∷ sites) = (if site.place == i then owned h (Fresh i
 abbrev pub fresh_of : Code → ℕ → ℕ → Node → List Owned
 fresh_of p h i by = fresh_from h i by (length p.globals) (drop (length p.globals) p.sites)
 
-abbrev pub hand_rules : Code → Function → List (ℕ × ℕ × ℕ) → ℕ → ℕ → Node → ℕ → List ℕ → List Owned
-hand_rules p fn ds h i by n values = (register_copies p fn ds h i n values ++ owned h (Aim i by) ∷ []) ++ enters fn h i by n 0 values
+abbrev pub hand_rules : Code → Function → List (ℕ × ℕ × ℕ) → ℕ → ℕ → Node → ℕ → Callee → List ℕ → List Owned
+hand_rules p fn ds h i by n callee args =
+    (register_copies p fn ds h i n (handed_values callee args) ++ owned h (Aim i by) ∷ [])
+    ++ enters fn h i by n (found_by callee args) 0 (handed_values callee args)
 
 abbrev pub variable_rules : ℕ → ℕ → Option (Ident × Pos × ℕ) → List Owned
 variable_rules h i None = []
@@ -168,9 +177,9 @@ kind_rules p fn ds h i (kinds.Write at from) = register_copies p fn ds h i 0 (fr
 kind_rules p fn ds h i (kinds.Grow to at items) = grow_rules p fn ds h i at items (own_site p i)
 kind_rules p fn ds h i (kinds.Global to k) = variable_rules h i (slice_get p.globals k)
 kind_rules p fn ds h i (kinds.Assert to from target) = keeps h (node i 0 0) target (definitions p fn i from ds)
-kind_rules p fn ds h i (kinds.Call to callee args) = (hand_rules p fn ds h i (reference i callee args (length to)) (length to) (handed_values callee args) ++ returns fn h i (reference i callee args (length to)) 0 to) ++ fresh_of p h i (reference i callee args (length to))
-kind_rules p fn ds h i (kinds.Go callee args) = hand_rules p fn ds h i (reference i callee args 0) 0 (handed_values callee args)
-kind_rules p fn ds h i (kinds.Defer callee args) = hand_rules p fn ds h i (reference i callee args 0) 0 (handed_values callee args)
+kind_rules p fn ds h i (kinds.Call to callee args) = (hand_rules p fn ds h i (reference i callee args (length to)) (length to) callee args ++ returns fn h i (reference i callee args (length to)) 0 to) ++ fresh_of p h i (reference i callee args (length to))
+kind_rules p fn ds h i (kinds.Go callee args) = hand_rules p fn ds h i (reference i callee args 0) 0 callee args
+kind_rules p fn ds h i (kinds.Defer callee args) = hand_rules p fn ds h i (reference i callee args 0) 0 callee args
 kind_rules p fn ds h i (kinds.Leave from) = register_copies p fn ds h i 0 from
 kind_rules p fn ds h i (kinds.Passed to callee) = register_copies p fn ds h i 0 (to ∷ [])
 kind_rules p fn ds h i _ = []

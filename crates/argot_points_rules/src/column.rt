@@ -1,12 +1,12 @@
 // The rules of each instruction.
 ghost use Rattle.std.specs.Prelude.{◌≡◌, true, ◌+◌, ◌-◌, ◌<◌, ◌≤◌, ◌^◌, ◌++◌, ◌∷◌, [], Some, None, length, drop, slice_get, ◌==◌, if◌then◌else◌, OnOk, IfOk, IfErr};
-ghost use Rattle.argot_plain.specs.Code.{handed_values};
+ghost use Rattle.argot_plain.specs.Code.{found_by};
 ghost use Rattle.argot_plain.specs.WellFormed.{WellFormed};
 ghost use Rattle.argot_facts.specs.Numbers.{node, leaves_of, own_site, shape_at};
-ghost use Rattle.argot_points_rules.specs.declared.rules.Rule.TheVariants.{Fresh};
+ghost use Rattle.argot_points_rules.specs.declared.rules.Rule.TheVariants.{Choose, Fresh};
 ghost use Rattle.std.specs.List.Sorted.{IsNonDecreasingBy};
 ghost use Rattle.argot_points_rules.specs.Stretches.{reached};
-ghost use Rattle.argot_points_rules.specs.Column.{owned, join_copies, register_copies, item_copies, grow_rules, enter_leaves, enters, return_leaves, returns, fresh_of, fresh_from, reference, hand_rules, variable_rules, kind_rules, place_rules, function_rules, rules_of, definitions};
+ghost use Rattle.argot_points_rules.specs.Column.{owned, join_copies, register_copies, item_copies, grow_rules, enter_leaves, is_value, enters, return_leaves, returns, fresh_of, fresh_from, reference, hand_rules, variable_rules, kind_rules, place_rules, function_rules, rules_of, definitions};
 
 use crate::definitions::definitions;
 use crate::nodes::{handed_values, leaves_of, own_site, small};
@@ -190,6 +190,63 @@ fn push_enter_leaves(
     Ok(())
 }
 
+/// The index of the handed value by which the callee is found.
+fn found_by(callee: &Callee, args: &[u32]) -> Option<usize>
+    ensures { result ≡ found_by callee.now args.now }
+{
+    match callee {
+        Callee::Static(_) => None,
+        Callee::Value(_) => Some(args.len()),
+        Callee::Method(_, _) => Some(0),
+    }
+}
+
+/// Whether this is the handed value of an index.
+fn is_value(found: Option<usize>, index: usize) -> bool
+    ensures { result ≡ is_value found index }
+{
+    match found {
+        Some(c) => c == index,
+        None => false,
+    }
+}
+
+/// A handed value enters the targets: where the callee is found by it, each target gets what selects it.
+fn push_enter(
+    alloc: Global,
+    rules: &mut Vec<Owned>,
+    at: &At,
+    by: Node,
+    behind: u32,
+    found: Option<usize>,
+    index: u32,
+    register: u32,
+) -> Result<(), Memory>
+    ensures { OnOk result (rules.new.items ≡ rules.old.items ++ (if is_value found index then owned at.now.owner (Choose at.now.place by index) ∷ [] else enter_leaves at.now.owner at.now.place by behind index 0 (leaves_of at.now.function.now register))) }
+{
+    if is_value(found, index as usize) {
+        return push_rule(
+            rules,
+            at.owner,
+            Rule::Choose {
+                place: at.place,
+                by,
+                index,
+            },
+        );
+    }
+    push_enter_leaves(
+        alloc,
+        rules,
+        at.owner,
+        at.place,
+        by,
+        behind,
+        index,
+        leaves_of(at.function, register),
+    )
+}
+
 /// The handed values enter the targets.
 fn push_enters(
     alloc: Global,
@@ -197,21 +254,13 @@ fn push_enters(
     at: &At,
     by: Node,
     behind: u32,
+    found: Option<usize>,
     values: &[u32],
 ) -> Result<(), Memory>
-    ensures { OnOk result (rules.new.items ≡ rules.old.items ++ enters at.now.function.now at.now.owner at.now.place by behind 0 values.now) }
+    ensures { OnOk result (rules.new.items ≡ rules.old.items ++ enters at.now.function.now at.now.owner at.now.place by behind found 0 values.now) }
 {
     for k in 0..values.len() {
-        push_enter_leaves(
-            alloc,
-            rules,
-            at.owner,
-            at.place,
-            by,
-            behind,
-            small(k)?,
-            leaves_of(at.function, values[k]),
-        )?;
+        push_enter(alloc, rules, at, by, behind, found, small(k)?, values[k])?;
     }
     Ok(())
 }
@@ -323,7 +372,7 @@ fn push_hands(
     callee: &Callee,
     args: &[u32],
 ) -> Result<(), Memory>
-    ensures { OnOk result (rules.new.items ≡ rules.old.items ++ hand_rules at.now.program.now at.now.function.now at.now.defs.now at.now.owner at.now.place by behind (handed_values callee.now args.now)) }
+    ensures { OnOk result (rules.new.items ≡ rules.old.items ++ hand_rules at.now.program.now at.now.function.now at.now.defs.now at.now.owner at.now.place by behind callee.now args.now) }
 {
     let values = handed_values(alloc, callee, args)?;
     push_registers(alloc, rules, at, behind, &values)?;
@@ -335,7 +384,15 @@ fn push_hands(
             by,
         },
     )?;
-    push_enters(alloc, rules, at, by, behind, &values)
+    push_enters(
+        alloc,
+        rules,
+        at,
+        by,
+        behind,
+        found_by(callee, args),
+        &values,
+    )
 }
 
 /// A Grow: the old slice and the own site, the elements that it copies, and all that is put.

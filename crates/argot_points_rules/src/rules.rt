@@ -107,6 +107,13 @@ pub enum Rule {
         path: Path,
         source: Node,
     },
+    /// The parameters that the handed value of this index becomes, by which the callee is found, each refer to that alone of
+    /// what the value refers to by which their function is meant.
+    Choose {
+        place: u32,
+        by: Node,
+        index: u32,
+    },
     /// The node refers to all that the targets hand back with this index at the leaf of this path.
     Return {
         place: u32,
