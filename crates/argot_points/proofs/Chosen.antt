@@ -1,6 +1,6 @@
 -- The value by which a callee is found, and what selects a function there.
 use Rattle.std.proofs.Common.{◌≡◌, ℕ, ◌+◌, Bool, true, false, List, [], ◌∷◌, ◌++◌, Some, None, Option, refl, sym, ap, ◌∙◌, arith, subst, eq-eqb, eqb-true}
-use Rattle.std.specs.Prelude.{slice_get, length, ◌==◌}
+use Rattle.std.specs.Prelude.{slice_get, length}
 use Rattle.argot_plain.specs.Lists.{In, here}
 use Rattle.argot_plain.specs.Code.{Code, IsAt, IsIn, Hands, by_call, by_go, by_defer, found_by, handed_values, leaves, Selects}
 use Rattle.argot_plain.specs.Code as Choosing

@@ -6,6 +6,7 @@ pub mod Each
 pub mod Pieces
 pub mod Handed
 pub mod Chosen
+pub mod Lookups
 pub mod Defined
 pub mod Told
 pub mod CallsTold

@@ -13,7 +13,7 @@ use Rattle.argot_facts.specs.declared.nodes.Node.{Node}
 use Rattle.argot_facts.specs.declared.pointing.Loc.{Loc}
 use Rattle.argot_facts.specs.declared.pointing.Spot.{Spot}
 use Rattle.argot_facts.specs.declared.pointing.Spot.TheVariants as spot
-use Rattle.argot_points.specs.Reading.{paired, of_row, of_nodes, of_places}
+use Rattle.argot_facts.specs.Pointing.{paired, of_row, of_nodes, of_places}
 
 -- ---- a row as a list
 

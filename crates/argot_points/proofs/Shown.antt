@@ -1,6 +1,6 @@
 -- What is found in sound and closed tables is exactly the relation.
 use Rattle.std.proofs.Common.{◌≡◌, ℕ, ◌+◌, Bool, false, List, [], ◌∷◌, ◌++◌, Some, refl, sym, ap, ◌∙◌, inl, inr, arith, subst}
-use Rattle.std.specs.Prelude.{◌↔◌, slice_get, length}
+use Rattle.std.specs.Prelude.{◌↔◌, slice_get, length, ◌<◌}
 use Rattle.std.proofs.lemmas.Option.{slice_get_within}
 use Rattle.std.specs.List.{filter_map}
 use Rattle.argot_links.specs.Members.{IsAscending}
@@ -16,15 +16,15 @@ use Rattle.argot_facts.specs.Numbers.{location, node}
 use Rattle.argot_facts.specs.Refers.{Location, Fact, Holds, IsLive, Targets, NodeRefers, PlaceRefers}
 use Rattle.argot_facts.specs.declared.nodes.Node.{Node}
 use Rattle.argot_facts.specs.declared.pointing.Loc.{Loc}
-use Rattle.argot_facts.specs.declared.pointing.Points.{Points}
+use Rattle.argot_facts.specs.Pointing.{Pointing, FitsPoints, paired, of_nodes, of_places}
 use Rattle.argot_facts.specs.declared.pointing.Spot.{Spot}
 use Rattle.argot_facts.specs.declared.pointing.Spot.TheVariants as spot
 use Rattle.argot_points_rules.specs.Column.{reference}
 use Rattle.argot_points.specs.declared.system.System.{System}
 use Rattle.argot_points.specs.declared.system.Tables.{Tables}
-use Rattle.argot_points.specs.Found.{Found, Calls, IsTarget, by_number as by_its_number, by_function, by_method as by_name, IsExact, AreRead}
+use Rattle.argot_points.specs.Found.{Found, Calls, IsTarget, by_number as by_its_number, by_function, by_method as by_name, IsExact, AreRead, AreTargetsOf}
 use Rattle.argot_points.specs.Meaning.{IsRow, IsColumn, NodeTo, PlaceTo, IsCall, MeansAt, by_value, by_method, Aimed, by_number, by_object}
-use Rattle.argot_points.specs.Reading.{HasTarget, AreListed, paired, refers_of, of_nodes, of_places, found_of}
+use Rattle.argot_points.specs.Reading.{HasTarget, AreListed, refers_of, found_of}
 use Rattle.argot_points.specs.Solved.{IsSound, AllDone, Refers, place_row}
 use Rattle.argot_points.specs.Solving.{IsReady}
 use Rattle.argot_points.proofs.Aims.{listed_all}
@@ -199,22 +199,58 @@ module _ (s : System) (t : Tables) (uses : List (List ℕ)) (ready : IsReady s t
   }
 
 module _ (s : System) (t : Tables) (uses : List (List ℕ)) (ready : IsReady s t uses) where
-  -- what is read out
-  pub is_read : (x : Points) → x.refers ≡ refers_of s t → x.live ≡ row t.live 0 → IsAscending (row t.live 0) → AreListed s t (length s.program.now.instrs) x.targets → AreRead (found_of s t) x
-  is_read x refers live ascending listed = record {
-    refers = refers;
-    live = live;
-    live_order = λ k a b h e. ascending_sorted (row t.live 0) ascending k (k + 1) a b (omega arith) (ap (λ xs. slice_get xs k) (sym live) ∙ h) (ap (λ xs. slice_get xs (k + 1)) (sym live) ∙ e);
-    targets_order = λ k a b h e. listed.order k (k + 1) a b (omega arith) h e;
-    targets = λ i g. (
-      λ m. let y = (listed_all s t x.targets ready.well.ranges listed i g).0 m in from_target s t uses ready i g y.0 y.1,
-      λ y. (listed_all s t x.targets ready.well.ranges listed i g).1 (to_target s t uses ready i g y),
+  -- a target is a function of the program
+  target_inside : (i g : ℕ) (takes : Bool) → HasTarget s t i g takes → g < length s.program.now.functions
+  target_inside i g takes has = aimed_inside takes (reference i has.callee has.args has.behind) has.aimed
+    where
+      meant_inside : (site : ℕ) (callee : Callee) (tk : Bool) → MeansAt s site callee g tk → g < length s.program.now.functions
+      meant_inside site _ tk (by_value r v) = slice_get_within s.program.now.functions g v.fn v.is
+      meant_inside site _ tk (by_method r name d) = let a = ready.well.one_wrapper.is d.here.dynamic g name d.listed in slice_get_within s.program.now.functions g a.0 a.1
+
+      aimed_inside : (tk : Bool) (by : Node) → Aimed s (Refers t) i by g tk → g < length s.program.now.functions
+      aimed_inside _ by (by_number args n c) = ready.well.numbers.callee i g n c.kind args c.is c.hands
+      aimed_inside tk by (by_object callee args n r y c stands refers means) = meant_inside means.loc.site callee tk means.means
+
+  pub listed_targets : (targets : List (ℕ × ℕ)) → AreListed s t (length s.program.now.instrs) targets → AreTargetsOf (found_of s t) targets
+  listed_targets targets listed = record {
+    order = λ k a b h e. listed.order k (k + 1) a b (omega arith) h e;
+    each = λ i g. (
+      λ m. let y = (listed_all s t targets ready.well.ranges listed i g).0 m in from_target s t uses ready i g y.0 y.1,
+      λ y. (listed_all s t targets ready.well.ranges listed i g).1 (to_target s t uses ready i g y),
     );
+    places = λ i g m. ((listed.each i g).0 m).0;
+    callees = λ i g m. (let x = ((listed.each i g).0 m).1 in target_inside i g x.0 x.1);
   }
 
+  -- what is read out
+  abbrev pub read_of : List ℕ → List (ℕ × ℕ) → Pointing
+  read_of live targets = record { nodes = s.nodes.items; locations = s.locations.items; rows = t.refers; live = live; targets = targets }
+
+  module _ (live : List ℕ) (targets : List (ℕ × ℕ)) (same : live ≡ row t.live 0) (inside : (g : ℕ) → In g live → g < length s.program.now.functions) (are : AreTargetsOf (found_of s t) targets) where
+    pub read_fits : FitsPoints s.program.now (read_of live targets)
+    read_fits = record {
+      nodes = ready.nodes;
+      locations = ready.locations;
+      rows = record { rows = ready.size.rows; cols = ready.size.cols; few_nodes = ready.few_nodes; few_locations = ready.few_locations };
+      live = inside;
+      places = are.places;
+      callees = are.callees;
+    }
+
+    pub is_read : IsAscending (row t.live 0) → AreRead (found_of s t) (read_of live targets)
+    is_read ascending = record {
+      fits = read_fits;
+      refers = refl;
+      live = same;
+      live_order = λ k a b h e. ascending_sorted (row t.live 0) ascending k (k + 1) a b (omega arith) (ap (λ xs. slice_get xs k) (sym same) ∙ h) (ap (λ xs. slice_get xs (k + 1)) (sym same) ∙ e);
+      targets_order = are.order;
+      targets = are.each;
+    }
+
 -- exactly what is found, where that is exact
-pub points_of : (p : Code) (v : Found) (x : Points) → v.program ≡ p → IsExact v → AreRead v x → ArePoints p x
+pub points_of : (p : Code) (v : Found) (x : Pointing) → v.program ≡ p → IsExact v → AreRead v x → ArePoints p x
 points_of p v x same exact read = subst (λ c. ArePoints c x) same (record {
+  fits = read.fits;
   refers = λ a l. subst (λ xs. In (a, l) xs ↔ SpotRefers v.program a l) (sym read.refers) (exact.refers a l);
   live_order = read.live_order;
   live = λ g. subst (λ xs. In g xs ↔ Holds v.program (IsLive g)) (sym read.live) (exact.live g);

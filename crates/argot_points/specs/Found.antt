@@ -12,7 +12,7 @@ use Rattle.argot_facts.specs.Graphs.{IsOrdered}
 use Rattle.argot_facts.specs.Numbers.{node}
 use Rattle.argot_facts.specs.Refers.{Holds, IsLive, Targets}
 use Rattle.argot_facts.specs.declared.pointing.Loc.{Loc}
-use Rattle.argot_facts.specs.declared.pointing.Points.{Points}
+use Rattle.argot_facts.specs.Pointing.{Pointing, FitsPoints, refers}
 use Rattle.argot_facts.specs.declared.pointing.Spot.{Spot}
 use Rattle.argot_facts.specs.declared.pointing.Spot.TheVariants as spot
 
@@ -46,9 +46,17 @@ pub record IsExact (v : Found) : Type 0 where
   pub live : (g : ℕ) → In g v.live ↔ Holds v.program (IsLive g)
   pub targets : (i g : ℕ) → IsTarget v i g ↔ ((takes : Bool) × Holds v.program (Targets i g takes))
 
--- what is found, as lists: live functions and targets in order, and none twice
-pub record AreRead (v : Found) (x : Points) : Type 0 where
-  pub refers : x.refers ≡ v.refers
+-- exactly the targets of what is found, in order
+pub record AreTargetsOf (v : Found) (targets : List (ℕ × ℕ)) : Type 0 where
+  pub order : IsOrdered TargetBefore targets
+  pub each : (i g : ℕ) → In (i, g) targets ↔ IsTarget v i g
+  pub places : (i g : ℕ) → In (i, g) targets → i < length v.program.instrs
+  pub callees : (i g : ℕ) → In (i, g) targets → g < length v.program.functions
+
+-- what is found, by number: live functions and targets in order, and none twice
+pub record AreRead (v : Found) (x : Pointing) : Type 0 where
+  pub fits : FitsPoints v.program x
+  pub refers : refers x ≡ v.refers
   pub live : x.live ≡ v.live
   pub live_order : IsOrdered (λ (g h : ℕ). g < h) x.live
   pub targets_order : IsOrdered TargetBefore x.targets

@@ -1,17 +1,15 @@
 -- What tables have, as lists.
-use Rattle.std.specs.Prelude.{◌≡◌, ◌↔◌, ℕ, ◌+◌, ◌<◌, Bool, true, List, [], ◌∷◌, ◌++◌, Option, Some, None, length, slice_get}
-use Rattle.std.specs.List.{filter_map}
-use Rattle.argot_links.specs.Table.{Table, has, row}
+use Rattle.std.specs.Prelude.{◌≡◌, ◌↔◌, ℕ, ◌<◌, Bool, true, List, ◌++◌, Option, Some, None, length, slice_get}
+use Rattle.argot_links.specs.Table.{has, row}
 use Rattle.argot_plain.specs.Lists.{In}
 use Rattle.argot_plain.specs.Code.{Code, IsAt, IsIn, Hands}
 use Rattle.argot_plain.specs.declared.functions.Function.{Function}
 use Rattle.argot_plain.specs.declared.instructions.Callee.{Callee}
 use Rattle.argot_plain.specs.declared.instructions.Kind.{Kind}
 use Rattle.argot_facts.specs.Findings.{TargetBefore}
-use Rattle.argot_facts.specs.declared.nodes.Node.{Node}
+use Rattle.argot_facts.specs.Pointing.{of_nodes, of_places}
 use Rattle.argot_facts.specs.declared.pointing.Loc.{Loc}
 use Rattle.argot_facts.specs.declared.pointing.Spot.{Spot}
-use Rattle.argot_facts.specs.declared.pointing.Spot.TheVariants as spot
 use Rattle.argot_points_rules.specs.Column.{reference}
 use Rattle.argot_points.specs.declared.system.System.{System}
 use Rattle.argot_points.specs.declared.system.Tables.{Tables}
@@ -19,24 +17,7 @@ use Rattle.argot_points.specs.Found.{Found}
 use Rattle.argot_points.specs.Meaning.{Aimed}
 use Rattle.argot_points.specs.Solved.{Refers}
 
-abbrev pub paired : Spot → Option Loc → Option (Spot × Loc)
-paired a None = None
-paired a (Some l) = Some (a, l)
-
--- what the row r has, of the spot a
-abbrev pub of_row : List Loc → Table → Spot → ℕ → List (Spot × Loc)
-of_row ls t a r = filter_map (λ c. paired a (slice_get ls c)) (row t r)
-
--- the rows of these nodes, from row r on
-abbrev pub of_nodes : List Loc → Table → ℕ → List Node → List (Spot × Loc)
-of_nodes ls t r [] = []
-of_nodes ls t r (a ∷ ns) = of_row ls t (spot.Node a) r ++ of_nodes ls t (r + 1) ns
-
--- and of these locations
-abbrev pub of_places : List Loc → Table → ℕ → List Loc → List (Spot × Loc)
-of_places ls t r [] = []
-of_places ls t r (l ∷ ks) = of_row ls t (spot.Loc l) r ++ of_places ls t (r + 1) ks
-
+-- what nodes and then locations refer to
 abbrev pub refers_of : System → Tables → List (Spot × Loc)
 refers_of s t = of_nodes s.locations.items t.refers 0 s.nodes.items ++ of_places s.locations.items t.refers (length s.nodes.items) s.locations.items
 

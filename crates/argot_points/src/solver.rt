@@ -1,20 +1,20 @@
 // The solver of a program: its numbers, its rules, and the tables that keep them.
 ghost use Rattle.std.specs.Prelude.{◌≡◌, [], IfOk, IfErr};
 ghost use Rattle.argot_facts.specs.Exact.{AreDefs};
-ghost use Rattle.argot_points.specs.Found.{IsExact, AreRead};
+ghost use Rattle.argot_points.specs.Found.{IsExact, AreRead, AreTargetsOf};
 ghost use Rattle.argot_points.specs.Solving.{HasFew, HasMany};
 
 use crate::aiming::targets_of;
 use crate::passes::saturate;
-use crate::reading::{first_row, refers_of};
+use crate::reading::{are_below, first_row};
 use crate::system::{System, Tables};
 use crate::uses::uses_of;
 use crate::worklist::settle;
-use argot_facts::{Defs, Points};
+use argot_facts::{Defs, Points, PointsParts};
 use argot_links::{Chains, Queue, Rows};
 use argot_plain::Program;
 use argot_points_rules::{PointsFault, list_locations, list_nodes, rules_of};
-use argot_text::{Memory, Sequence};
+use argot_text::Memory;
 use std::alloc::Global;
 use std::marker::Model;
 
@@ -108,17 +108,34 @@ impl<'a> Solver<'a> {
         saturate(&self.system, &mut self.tables);
     }
 
-    /// What is found so far. Err is want of memory.
-    pub fn points(&self, alloc: Global) -> Result<Points, Memory>
-        ensures { IfOk result (AreRead self.now) }
+    /// What is found so far, in the table in which it was found. Err is want of memory.
+    pub fn points(self, alloc: Global) -> Result<Points, Memory>
+        ensures { IfOk result (AreRead self.entry) }
     {
-        let refers = refers_of(alloc, &self.system, &self.tables)?;
         let live = first_row(alloc, &self.tables.live)?;
-        let targets = targets_of(alloc, &self.system, &self.tables)?;
-        Ok(Points {
-            refers: Sequence::from_vec(refers),
-            live: Sequence::from_vec(live),
-            targets: Sequence::from_vec(targets),
-        })
+        let targets = self.targets(alloc)?;
+        let system = self.system;
+        let tables = self.tables;
+        let program = system.program;
+        if !are_below(&live, program.function_count()) {
+            return Err(Memory);
+        }
+        let parts = PointsParts {
+            nodes: system.nodes,
+            locations: system.locations,
+            refers: tables.refers,
+            live,
+            targets,
+        };
+        let points = Points::from_parts(alloc, parts, program)?;
+        Ok(points)
+    }
+
+    /// The targets that are found so far, place by place.
+    fn targets(&self, alloc: Global) -> Result<Vec<(u32, u32)>, Memory>
+        ensures { IfOk result (λ v. AreTargetsOf self.now v.items) }
+    {
+        let found = targets_of(alloc, &self.system, &self.tables)?;
+        Ok(found)
     }
 }

@@ -1,7 +1,7 @@
 // What is printed of a program.
 use crate::finding::{definitions, points, points_by_passes};
 use crate::lines::push_points;
-use argot_facts::{Loc, Points, Spot};
+use argot_facts::{Loc, Node, Points};
 use argot_plain::Program;
 use argot_plain_text::read_program;
 use argot_points::PointsFault;
@@ -22,7 +22,7 @@ pub enum Stage {
 }
 
 /// As many lines are printed at most.
-const MOST_LINES: usize = 10_000;
+const MOST_LINES: u64 = 10_000;
 
 fn text_of(fault: PointsFault) -> &'static str {
     match fault {
@@ -39,55 +39,85 @@ fn of_location(location: &Loc) -> u64 {
         .wrapping_add(location.path.len() as u64)
 }
 
-fn of_spot(spot: &Spot) -> u64 {
-    match spot {
-        Spot::Node(node) => u64::from(node.place)
-            .wrapping_mul(10_007)
-            .wrapping_add(u64::from(node.index).wrapping_mul(101))
-            .wrapping_add(u64::from(node.leaf)),
-        Spot::Loc(location) => of_location(location).wrapping_mul(7),
+fn of_node(node: Node) -> u64 {
+    u64::from(node.place)
+        .wrapping_mul(10_007)
+        .wrapping_add(u64::from(node.index).wrapping_mul(101))
+        .wrapping_add(u64::from(node.leaf))
+}
+
+/// How many references there are, and a sum over the members of the relation, by which two are compared.
+#[derive(Clone, Copy)]
+struct Totals {
+    references: u64,
+    sum: u64,
+}
+
+// And a reference of what has this number of its own.
+fn with_reference(totals: Totals, points: &Points, spot: u64, y: u32) -> Totals {
+    if y as usize >= points.location_count() {
+        return totals;
+    }
+    Totals {
+        references: totals.references.wrapping_add(1),
+        sum: totals
+            .sum
+            .wrapping_add(spot.wrapping_mul(31).wrapping_add(of_location(points.location(y)))),
     }
 }
 
-// A sum over the members of the relation, by which two are compared.
-fn sum_of(points: &Points) -> u64 {
-    let mut sum = 0u64;
-    for pair in points.refers.as_slice() {
-        sum = sum.wrapping_add(
-            of_spot(&pair.0)
-                .wrapping_mul(31)
-                .wrapping_add(of_location(&pair.1)),
-        );
+fn of_references(points: &Points) -> Totals {
+    let mut totals = Totals {
+        references: 0,
+        sum: 0,
+    };
+    for n in 0..points.nodes().len() {
+        let spot = of_node(points.nodes().node(n as u32));
+        for y in points.refers(n as u32) {
+            totals = with_reference(totals, points, spot, y);
+        }
     }
-    for function in points.live.as_slice() {
-        sum = sum.wrapping_add(u64::from(*function));
+    for z in 0..points.location_count() {
+        let spot = of_location(points.location(z as u32)).wrapping_mul(7);
+        for y in points.refers_at(z as u32) {
+            totals = with_reference(totals, points, spot, y);
+        }
     }
-    for target in points.targets.as_slice() {
-        sum = sum.wrapping_add(
+    totals
+}
+
+fn totals_of(points: &Points) -> Totals {
+    let mut totals = of_references(points);
+    for function in points.live() {
+        totals.sum = totals.sum.wrapping_add(u64::from(*function));
+    }
+    for target in points.targets() {
+        totals.sum = totals.sum.wrapping_add(
             u64::from(target.0)
                 .wrapping_mul(65_537)
                 .wrapping_add(u64::from(target.1)),
         );
     }
-    sum
+    totals
 }
 
-fn push_counts(out: &mut Out, points: &Points) -> Result<(), Memory> {
-    out.push_number(points.refers.len() as u64)?;
+fn push_counts(out: &mut Out, points: &Points, totals: Totals) -> Result<(), Memory> {
+    out.push_number(totals.references)?;
     out.push_str(" references, ")?;
-    out.push_number(points.live.len() as u64)?;
+    out.push_number(points.live().len() as u64)?;
     out.push_str(" live, ")?;
-    out.push_number(points.targets.len() as u64)?;
+    out.push_number(points.targets().len() as u64)?;
     out.push_str(" targets, sum ")?;
-    out.push_number(sum_of(points))?;
+    out.push_number(totals.sum)?;
     out.push_str("\n")
 }
 
 fn push_all(out: &mut Out, points: &Points) -> Result<(), Memory> {
-    if points.refers.len() <= MOST_LINES {
+    let totals = totals_of(points);
+    if totals.references <= MOST_LINES {
         push_points(out, points)?;
     }
-    push_counts(out, points)
+    push_counts(out, points, totals)
 }
 
 fn push_definitions(alloc: Global, out: &mut Out, program: &Program) -> Result<(), Memory> {

@@ -1,6 +1,6 @@
 // The lines: `node PLACE INDEX LEAF refers to site SITE PATH`, `site SITE PATH refers to site SITE PATH`, `live FUNCTION`
 // and `target PLACE FUNCTION`, where a path is `-` or its steps with dots between them, as `argot_plain_text` has them.
-use argot_facts::{Loc, Points, Spot};
+use argot_facts::{Loc, Node, Points};
 use argot_text::{Memory, Out, PathStep};
 
 fn push_step(out: &mut Out, step: PathStep) -> Result<(), Memory> {
@@ -50,31 +50,44 @@ fn push_numbers(out: &mut Out, word: &str, numbers: &[u32]) -> Result<(), Memory
     Ok(())
 }
 
-fn push_spot(out: &mut Out, spot: &Spot) -> Result<(), Memory> {
-    match spot {
-        Spot::Node(node) => push_numbers(out, "node", &[node.place, node.index, node.leaf]),
-        Spot::Loc(location) => push_location(out, location),
-    }
+fn push_node(out: &mut Out, node: Node) -> Result<(), Memory> {
+    push_numbers(out, "node", &[node.place, node.index, node.leaf])
 }
 
-fn push_refers(out: &mut Out, refers: &[(Spot, Loc)]) -> Result<(), Memory> {
-    for pair in refers {
-        push_spot(out, &pair.0)?;
-        out.push_str(" refers to ")?;
-        push_location(out, &pair.1)?;
-        out.push_str("\n")?;
+// To what a node or a location refers, behind it.
+fn push_target(out: &mut Out, points: &Points, y: u32) -> Result<(), Memory> {
+    if y as usize >= points.location_count() {
+        return Ok(());
+    }
+    out.push_str(" refers to ")?;
+    push_location(out, points.location(y))?;
+    out.push_str("\n")
+}
+
+fn push_refers(out: &mut Out, points: &Points) -> Result<(), Memory> {
+    for n in 0..points.nodes().len() {
+        for y in points.refers(n as u32) {
+            push_node(out, points.nodes().node(n as u32))?;
+            push_target(out, points, y)?;
+        }
+    }
+    for z in 0..points.location_count() {
+        for y in points.refers_at(z as u32) {
+            push_location(out, points.location(z as u32))?;
+            push_target(out, points, y)?;
+        }
     }
     Ok(())
 }
 
 /// Adds a line for each member of the relation.
 pub fn push_points(out: &mut Out, points: &Points) -> Result<(), Memory> {
-    push_refers(out, points.refers.as_slice())?;
-    for function in points.live.as_slice() {
+    push_refers(out, points)?;
+    for function in points.live() {
         push_numbers(out, "live", &[*function])?;
         out.push_str("\n")?;
     }
-    for target in points.targets.as_slice() {
+    for target in points.targets() {
         push_numbers(out, "target", &[target.0, target.1])?;
         out.push_str("\n")?;
     }
