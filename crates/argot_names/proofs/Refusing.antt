@@ -1,14 +1,16 @@
 -- What is refused of names, and that nothing is wrong.
 use Rattle.std.proofs.Common.{◌≡◌, ℕ, ◌<◌, List, sym, subst, arith}
-use Rattle.std.specs.Prelude.{Result, Ok, Err, OnOk}
+use Rattle.std.specs.Prelude.{Result, Ok, Err, OnOk, IsErrAnd}
 use Rattle.argot_names_rules.specs.declared.fault.NameFault.{NameFault}
 use Rattle.argot_text.specs.declared.position.Pos.{Pos}
 use Rattle.argot_names_rules.specs.Files.{SourceFiles, Place, IsFirst, position_of}
-use Rattle.argot_names_rules.specs.Faults.{IsRedeclared, IsUnresolved, Wrong, SecondName, Missing, Cycle, Again, Unknown, order, IsNowhere, Refuses, named, IsResolved}
+use Rattle.argot_names_rules.specs.Faults.{IsRedeclared, IsUnresolved, memory, Wrong, SecondName, Missing, Cycle, Again, Unknown, order, IsNowhere, Refuses, named, IsResolved}
 use Rattle.argot_names_rules.specs.declared.fault.NameFault.TheVariants as faults
 use Rattle.argot_names_imports.specs.declared.reached.Reached.{Reached}
 use Rattle.argot_names_tops.specs.declared.tops.Tops.{Tops}
 use Rattle.argot_names_tops.specs.Tops.{AreTops}
+use Rattle.argot_names.specs.declared.loading.Names.{Names}
+use Rattle.argot_names.specs.Names.{HasNames}
 
 module _ (h : SourceFiles) (main : List ℕ) (r : Reached) (t : Tops) (tops : AreTops h main r t) where
   before_again : (earlier : Wrong) → order earlier < order Again → IsNowhere h main earlier
@@ -45,3 +47,13 @@ module _ (h : SourceFiles) (main : List ℕ) (r : Reached) (t : Tops) (tops : Ar
 pub on_ok : {A : Type 0} (r : Result A NameFault) (P Q : Type 0) → (P → Q) → OnOk r P → OnOk r Q
 on_ok (Ok x) P Q f p = f p
 on_ok (Err e) P Q f p = tt
+
+module _ (h : SourceFiles) (main : List ℕ) (r : Reached) where
+  -- a fault is answered, and it is the one that is due
+  pub names_call : (result : Result Names NameFault) (f : NameFault) → IsErrAnd result (λ e. e ≡ f) → Refuses h main f → HasNames h main r result
+  names_call (Ok x) f e is = absurd e
+  names_call (Err g) f e is = record { ok = tt; fine = tt; fault = subst (Refuses h main) (sym e) is }
+
+  -- want of memory may be answered
+  pub names_memory : (result : Result Names NameFault) → IsErrAnd result (λ e. e ≡ faults.Memory) → HasNames h main r result
+  names_memory result e = names_call result faults.Memory e memory

@@ -19,6 +19,10 @@ pub use loading::load;
 pub use texts::stubs_named;
 
 #[cfg(test)]
+mod archives;
+#[cfg(test)]
+mod cases;
+#[cfg(test)]
 mod flag_tests;
 #[cfg(test)]
 mod load_tests;

@@ -5,6 +5,7 @@ ghost use Rattle.argot_names_rules.specs.Agreeing.{Agrees, HasLibrary};
 ghost use Rattle.argot_names_imports.specs.Reads.{handed};
 
 use crate::stubs_named;
+use argot_files::Files;
 use argot_names_files::{Folder, ReadingFault, folder_of_texts, read_files, sources_of};
 use argot_names_imports::{Reached, package_of, target_number};
 use argot_names_packages::reach;
@@ -31,9 +32,10 @@ fn named(fault: NameFault) -> (&'static str, u32, u32, u32) {
 // The packages that the top folder leads to.
 fn reach_in(alloc: Global, folder: &Folder) -> Result<Reached, NameFault>
     requires agrees { Agrees (handed folder.now.sources folder.now.lexed.items folder.now.trees.items) }
-    requires library { (main : List ℕ) → HasLibrary (handed folder.now.sources folder.now.lexed.items folder.now.trees.items) main }
+    requires library { (main : List ℕ)
+        → HasLibrary (handed folder.now.sources folder.now.lexed.items folder.now.trees.items) main }
 {
-    reach(alloc, &folder.sources, &folder.lexed, &folder.trees, "")
+    reach(alloc, &folder.files(), "")
 }
 
 // What is wrong with the packages of a folder at its first place.
@@ -251,7 +253,12 @@ fn named_alone(alloc: Global, path: &str, text: &str) -> Result<Option<Texts>, R
         return Ok(None);
     };
     let read = read_files(alloc, &sources)?;
-    Ok(Some(stubs_named(alloc, &sources, &read.lexed, &read.trees, "")?))
+    let files = Files {
+        sources: &sources,
+        lexed: read.lexed.as_slice(),
+        trees: read.trees.as_slice(),
+    };
+    Ok(Some(stubs_named(alloc, &files, "")?))
 }
 
 // The texts that a file names when all are handed over.
@@ -259,7 +266,7 @@ fn named_among_all(alloc: Global, path: &str, text: &str) -> Result<Option<Texts
     let Some(folder) = folder_of_texts(alloc, &[(path, text)], "m", None)? else {
         return Ok(None);
     };
-    Ok(Some(stubs_named(alloc, &folder.sources, &folder.lexed, &folder.trees, "")?))
+    Ok(Some(stubs_named(alloc, &folder.files(), "")?))
 }
 
 // Whether a call answered these texts.

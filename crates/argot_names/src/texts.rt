@@ -3,14 +3,14 @@ ghost use Rattle.std.specs.Prelude.{◌≡◌, ◌<◌, ◌++◌, ◌∷◌, [],
 ghost use Rattle.argot_names_rules.specs.Lists.{IsListOf};
 ghost use Rattle.argot_names_rules.specs.Agreeing.{PathBefore};
 ghost use Rattle.argot_names_rules.specs.Library.{AreNamed};
-ghost use Rattle.argot_names_imports.specs.Reads.{handed};
+ghost use Rattle.argot_files.specs.Reading.{files_in};
 ghost use Rattle.argot_names.specs.Paths.{library_paths};
 ghost use Rattle.argot_names.specs.Naming.{IsNamedPath};
 
 use crate::library::names;
+use argot_files::Files;
 use argot_names_imports::{Survey, survey_from};
-use argot_text::{Memory, Sources, Text, Texts};
-use argot_tree::{Lexed, Tree};
+use argot_text::{Memory, Text, Texts};
 use std::alloc::Global;
 
 // The paths of the library, in byte order.
@@ -55,16 +55,10 @@ fn list_named(alloc: Global, survey: &Survey) -> Result<Texts, Memory>
 
 /// The paths of the library that an import of a reached package names, in byte order and each once, whether or not their
 /// texts are among the files.
-pub fn stubs_named(
-    alloc: Global,
-    sources: &Sources,
-    lexed: &Vec<Lexed>,
-    trees: &Vec<Tree>,
-    main: &str,
-) -> Result<Texts, Memory>
-    ensures { IfOk result (AreNamed (handed sources.now lexed.now.items trees.now.items) main.now) }
+pub fn stubs_named(alloc: Global, files: &Files, main: &str) -> Result<Texts, Memory>
+    ensures { IfOk result (AreNamed (files_in files.now) main.now) }
 {
-    match survey_from(alloc, sources, lexed, trees, main)? {
+    match survey_from(alloc, files, main)? {
         Some(survey) => list_named(alloc, &survey),
         None => Ok(Texts::new(alloc)),
     }

@@ -7,7 +7,7 @@ use Rattle.argot_names_rules.specs.Blocks.{IsInnermost, IsOutside}
 use Rattle.argot_names_blocks.specs.declared.blocks.Block.{Block}
 use Rattle.argot_names_blocks.specs.declared.blocks.Span.{Span}
 use Rattle.argot_names_blocks.specs.Blocks.{AreBlocks, IsInnermostIn, is_around, span_if, later, span_in}
-use Rattle.argot_names_blocks.proofs.Listed.{some_is}
+use Rattle.argot_files.proofs.Listed.{some_is}
 use Rattle.argot_names_blocks.proofs.Outwards.{no_later}
 
 -- the tokens of a block

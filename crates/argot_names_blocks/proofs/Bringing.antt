@@ -5,9 +5,9 @@ use Rattle.argot_names_blocks.specs.declared.blocks.Block.{Block}
 use Rattle.argot_names_blocks.specs.declared.binding.BindingKind.{BindingKind as Written}
 use Rattle.argot_names_blocks.specs.declared.binding.BindingKind.TheVariants as manners
 use Rattle.argot_names_blocks.specs.declared.binding.Binding.{Binding}
-use Rattle.argot_names_blocks.specs.Forms.{IsFormed}
-use Rattle.argot_names_blocks.specs.Keys.{AreKeys}
-use Rattle.argot_names_blocks.specs.Parents.{AreParents}
+use Rattle.argot_files.specs.Forms.{IsFormed}
+use Rattle.argot_files.specs.Keys.{AreKeys}
+use Rattle.argot_files.specs.Parents.{AreParents}
 use Rattle.argot_names_blocks.specs.Blocks.{AreBlocks}
 use Rattle.argot_names_blocks.specs.Binding.{manner_of, written_of, IsBindingBy}
 use Rattle.argot_names_blocks.specs.Bringing.{bring_of}

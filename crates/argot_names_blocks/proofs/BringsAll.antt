@@ -10,14 +10,14 @@ use Rattle.argot_names_rules.specs.Bindings.{BindingKind, Brings, value, type_, 
 use Rattle.argot_names_blocks.specs.declared.blocks.Block.{Block}
 use Rattle.argot_names_blocks.specs.declared.binding.BindingKind.{BindingKind as Written}
 use Rattle.argot_names_blocks.specs.declared.binding.BindingKind.TheVariants as manners
-use Rattle.argot_names_blocks.specs.Forms.{IsFormed}
-use Rattle.argot_names_blocks.specs.Keys.{fits, AreKeys}
-use Rattle.argot_names_blocks.specs.Parents.{AreParents}
+use Rattle.argot_files.specs.Forms.{IsFormed}
+use Rattle.argot_files.specs.Keys.{fits, AreKeys}
+use Rattle.argot_files.specs.Parents.{AreParents}
 use Rattle.argot_names_blocks.specs.Blocks.{AreBlocks}
 use Rattle.argot_names_blocks.specs.Roles.{role_of}
 use Rattle.argot_names_blocks.specs.Binding.{written_of}
 use Rattle.argot_names_blocks.specs.Bringing.{found_at, found_in, brought_in, in_block, by_statement, listed, by_function, function_at, by_owner, owner_at, list_at, received_in, received, by_above, declared_below, defined_from, begins_at, ends_at, clause_at, used_below, switched_in, name_at, behind_values, behind_colon, switch_above, by_node, bring_of}
-use Rattle.argot_names_blocks.proofs.Listed.{some_is}
+use Rattle.argot_files.proofs.Listed.{some_is}
 use Rattle.argot_names_blocks.proofs.RoleKinds.{values_role, kind_role, function_role, entry_role, body_key}
 use Rattle.argot_names_blocks.proofs.Finding.{parent_found, key_found, at_found}
 use Rattle.argot_names_blocks.proofs.Around.{inside_is}

@@ -14,13 +14,13 @@ use Rattle.argot_names_blocks.specs.declared.roles.Role.TheVariants as roles
 use Rattle.argot_names_blocks.specs.declared.binding.Binding.{Binding}
 use Rattle.argot_names_blocks.specs.declared.binding.BindingKind.{BindingKind as Written}
 use Rattle.argot_names_blocks.specs.declared.binding.BindingKind.TheVariants as manners
-use Rattle.argot_names_blocks.specs.Keys.{key_of, fits, is_braces, is_named_guard, is_declared, is_values, AreKeys}
-use Rattle.argot_names_blocks.specs.Parents.{AreParents}
+use Rattle.argot_files.specs.Keys.{key_of, fits, is_braces, is_named_guard, is_declared, is_values, AreKeys}
+use Rattle.argot_files.specs.Parents.{AreParents}
 use Rattle.argot_names_blocks.specs.Blocks.{AreBlocks, span_in}
 use Rattle.argot_names_blocks.specs.Roles.{role_of}
 use Rattle.argot_names_blocks.specs.Binding.{IsBinding}
 use Rattle.argot_names_blocks.specs.Bringing.{found_at, found_in, brought_in, by_statement, listed, by_function, function_at, by_owner, owner_at, by_list, list_at, function_of, received_in, received, by_above, declared_below, defined_from, begins_at, ends_at, by_clause, clause_at, by_expressions, used_below, switched_in, name_at, behind_values, behind_colon, by_switch, switch_above, by_role, by_node, bring_of}
-use Rattle.argot_names_blocks.proofs.Listed.{some_is}
+use Rattle.argot_files.proofs.Listed.{some_is}
 use Rattle.argot_names_blocks.proofs.RoleKinds.{are_values, are_kind, are_function, are_entry, only_define, only_range_define, only_receive_define, only_entries, only_signature, only_names, only_expressions, only_type_switch, only_case, only_default, only_declared, only_used, body_key, braces_kind, named_guard_kind, declared_kind, values_kind}
 use Rattle.argot_names_blocks.proofs.Finding.{spans_of, is_of, found_there, found_parent, found_key}
 use Rattle.argot_names_blocks.proofs.Around.{is_inside}

@@ -7,10 +7,10 @@ use Rattle.argot_tree.specs.declared.tree.TreeNode.{TreeNode}
 use Rattle.argot_names_rules.specs.Nodes.{IsOf}
 use Rattle.argot_names_rules.specs.Blocks.{is_block, IsAround}
 use Rattle.argot_names_blocks.specs.declared.blocks.Block.{Block}
-use Rattle.argot_names_blocks.specs.Forms.{IsFormed}
+use Rattle.argot_files.specs.Forms.{IsFormed}
 use Rattle.argot_names_blocks.specs.Blocks.{Stands, IsOuter, AreBlocks, ClosesBehind, IsLastTo, AreLinked, BeginBy, IsBlockBefore, AreBlocksUpTo}
 use Rattle.argot_names_blocks.proofs.Growing.{get_left, get_end, in_more}
-use Rattle.argot_names_blocks.proofs.Listed.{some_is}
+use Rattle.argot_files.proofs.Listed.{some_is}
 use Rattle.argot_names_blocks.proofs.Outwards.{stands_before, no_later}
 
 -- the node of a block

@@ -5,10 +5,10 @@ use Rattle.argot_tree.specs.declared.node_kind.NodeKind.{NodeKind}
 use Rattle.argot_tree.specs.declared.tree.TreeNode.{TreeNode}
 use Rattle.argot_names_rules.specs.Nodes.{Spans, IsOf, IsChild}
 use Rattle.argot_names_blocks.specs.declared.tables.Found.{Found}
-use Rattle.argot_names_blocks.specs.Keys.{key_of, fits, IsKeyChild, AreKeys}
-use Rattle.argot_names_blocks.specs.Parents.{AreParents}
+use Rattle.argot_files.specs.Keys.{key_of, fits, IsKeyChild, AreKeys}
+use Rattle.argot_files.specs.Parents.{AreParents}
 use Rattle.argot_names_blocks.specs.Bringing.{found_with, found_at, entry_of, found_in}
-use Rattle.argot_names_blocks.proofs.Listed.{some_is}
+use Rattle.argot_files.proofs.Listed.{some_is}
 
 -- a node by its kind
 pub spans_of : (tree : List TreeNode) (k : ℕ) (n : TreeNode) (kind : NodeKind) → slice_get tree k ≡ Some n → n.kind ≡ kind → Spans tree k kind n.token n.last

@@ -8,11 +8,11 @@ use Rattle.argot_names_blocks.specs.declared.blocks.Block.{Block}
 use Rattle.argot_names_blocks.specs.declared.binding.Binding.{Binding}
 use Rattle.argot_names_blocks.specs.declared.lookup.QualifiedName.{QualifiedName}
 use Rattle.argot_names_blocks.specs.declared.tops.TopName.{TopName}
-use Rattle.argot_names_blocks.specs.declared.marks.Wanted.TheVariants as wants
-use Rattle.argot_names_blocks.specs.Forms.{IsFormed}
-use Rattle.argot_names_blocks.specs.Keys.{AreKeys}
-use Rattle.argot_names_blocks.specs.Marks.{AreMarks}
-use Rattle.argot_names_blocks.specs.Parents.{AreParents}
+use Rattle.argot_files.specs.declared.marks.Wanted.TheVariants as wants
+use Rattle.argot_files.specs.Forms.{IsFormed}
+use Rattle.argot_files.specs.Keys.{AreKeys}
+use Rattle.argot_files.specs.Marks.{AreMarks}
+use Rattle.argot_files.specs.Parents.{AreParents}
 use Rattle.argot_names_blocks.specs.Blocks.{AreBlocks}
 use Rattle.argot_names_blocks.specs.Binding.{IsBinding}
 use Rattle.argot_names_blocks.specs.Bringing.{by_node, bring_of}
@@ -23,7 +23,7 @@ use Rattle.argot_names_blocks.specs.Listing.{added, ListsUpTo, ListsAll, IsTopDe
 use Rattle.argot_names_blocks.proofs.Bringing.{brought_by}
 use Rattle.argot_names_blocks.proofs.Topping.{top_right}
 use Rattle.argot_names_blocks.proofs.LooksUp.{dotted_right, looked_right, only_key, all_keys}
-use Rattle.argot_names_blocks.proofs.Listed.{some_is}
+use Rattle.argot_files.proofs.Listed.{some_is}
 use Rattle.argot_names_blocks.proofs.Growing.{grow, all_listed}
 
 -- what answers only for nodes of the tree

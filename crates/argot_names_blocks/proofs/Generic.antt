@@ -14,13 +14,13 @@ use Rattle.argot_names_rules.specs.declared.alias.Alias.TheVariants.{Dotted}
 use Rattle.argot_names_blocks.specs.declared.tables.Found.{Found}
 use Rattle.argot_names_blocks.specs.declared.roles.Role.{Role}
 use Rattle.argot_names_blocks.specs.declared.roles.Role.TheVariants as roles
-use Rattle.argot_names_blocks.specs.declared.marks.Wanted.TheVariants as wants
+use Rattle.argot_files.specs.declared.marks.Wanted.TheVariants as wants
 use Rattle.argot_names_blocks.specs.Generics.{PaintsTrue, is_true, by_path, dot_at, by_dot, dot_of, is_dot_of}
 use Rattle.argot_names_blocks.specs.Listing.{AreGenerics, AreGenericsUpTo, TellsDot}
-use Rattle.argot_names_blocks.specs.Marks.{is_type_params, HasWanted, AreMarks}
+use Rattle.argot_files.specs.Marks.{is_type_params, HasWanted, AreMarks}
 use Rattle.argot_names_blocks.specs.Roles.{role_of}
 use Rattle.argot_names_blocks.specs.Bringing.{found_at}
-use Rattle.argot_names_blocks.proofs.Listed.{some_is}
+use Rattle.argot_files.proofs.Listed.{some_is}
 use Rattle.argot_names_blocks.proofs.Finding.{spans_of, is_of, found_there, at_found, get_some}
 use Rattle.argot_names_blocks.proofs.RoleKinds.{only_dotted, only_path}
 

@@ -1,10 +1,3 @@
-pub mod Listed
-pub mod Linked
-pub mod Parenting
-pub mod Shaping
-pub mod ShapedTrees
-pub mod Forming
-pub mod Keying
 pub mod RoleKinds
 pub mod Finding
 pub mod Outwards
@@ -12,7 +5,6 @@ pub mod Around
 pub mod BringsAll
 pub mod BringsOnly
 pub mod Bringing
-pub mod Marking
 pub mod LooksUp
 pub mod Topping
 pub mod Growing

@@ -12,11 +12,11 @@ use Rattle.argot_names_blocks.specs.declared.tables.Found.{Found}
 use Rattle.argot_names_blocks.specs.declared.roles.Role.{Role}
 use Rattle.argot_names_blocks.specs.declared.roles.Role.TheVariants as roles
 use Rattle.argot_names_blocks.specs.declared.lookup.QualifiedName.{QualifiedName}
-use Rattle.argot_names_blocks.specs.Parents.{AreParents}
+use Rattle.argot_files.specs.Parents.{AreParents}
 use Rattle.argot_names_blocks.specs.Roles.{role_of}
 use Rattle.argot_names_blocks.specs.Bringing.{found_at, found_in}
 use Rattle.argot_names_blocks.specs.Looking.{stmt_defines, list_defines, above_defines, unless, looked_by, looked_at, looked_of, IsLookupBy, by_operand, operand_at, by_selector, selector_at, dotted_by, dotted_at, dotted_of, IsQualifiedBy, is_link, keyed_by, keyed_at, is_key_of}
-use Rattle.argot_names_blocks.proofs.Listed.{some_is}
+use Rattle.argot_files.proofs.Listed.{some_is}
 use Rattle.argot_names_blocks.proofs.RoleKinds.{defines_role, are_defining, only_expressions, only_used, only_typed, only_qualified, only_selector, only_selected, only_keyed}
 use Rattle.argot_names_blocks.proofs.Finding.{spans_of, is_of, found_there, at_found, parent_found, found_parent}
 

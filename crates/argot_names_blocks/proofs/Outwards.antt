@@ -8,7 +8,7 @@ use Rattle.argot_tree.specs.declared.tree.TreeNode.{TreeNode}
 use Rattle.argot_names_rules.specs.Blocks.{IsAround}
 use Rattle.argot_names_blocks.specs.declared.blocks.Block.{Block}
 use Rattle.argot_names_blocks.specs.Blocks.{Stands, Ascend, AreBlocks, IsInnermostIn, ClosesBehind, IsLastTo, AreLinked, BeginBy}
-use Rattle.argot_names_blocks.proofs.Listed.{some_is}
+use Rattle.argot_files.proofs.Listed.{some_is}
 use Rattle.argot_names_blocks.proofs.Finding.{get_some}
 
 -- one more than the number of a block, or none

@@ -7,8 +7,8 @@ use Rattle.argot_names_blocks.specs.declared.roles.Role.TheVariants as roles
 use Rattle.argot_names_rules.specs.Uses.{defines_expressions}
 use Rattle.argot_names_blocks.specs.Roles.{role_of}
 use Rattle.argot_names_blocks.specs.Looking.{by_define, is_func_decl}
-use Rattle.argot_names_blocks.specs.declared.keys.Key.TheVariants as keys
-use Rattle.argot_names_blocks.specs.Keys.{key_of, is_braces, is_named_guard, is_declared, is_values}
+use Rattle.argot_files.specs.declared.keys.Key.TheVariants as keys
+use Rattle.argot_files.specs.Keys.{key_of, is_braces, is_named_guard, is_declared, is_values}
 
 pub values_role : (kind : NodeKind) → specifies_values kind ≡ true → role_of kind ≡ roles.Values
 values_role nodes.ConstSpec e = refl

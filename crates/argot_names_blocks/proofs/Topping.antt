@@ -18,14 +18,14 @@ use Rattle.argot_names_blocks.specs.declared.roles.Role.TheVariants as roles
 use Rattle.argot_names_blocks.specs.declared.tops.TopName.{TopName}
 use Rattle.argot_names_blocks.specs.declared.tops.Sort.{Sort}
 use Rattle.argot_names_blocks.specs.declared.tops.Sort.TheVariants as sorts
-use Rattle.argot_names_blocks.specs.declared.marks.Wanted.TheVariants as wants
-use Rattle.argot_names_blocks.specs.Marks.{HasWanted, AreMarks}
-use Rattle.argot_names_blocks.specs.Parents.{AreParents}
+use Rattle.argot_files.specs.declared.marks.Wanted.TheVariants as wants
+use Rattle.argot_files.specs.Marks.{HasWanted, AreMarks}
+use Rattle.argot_files.specs.Parents.{AreParents}
 use Rattle.argot_names_blocks.specs.Blocks.{AreBlocks, span_in}
 use Rattle.argot_names_blocks.specs.Roles.{role_of}
 use Rattle.argot_names_blocks.specs.Bringing.{found_in}
 use Rattle.argot_names_blocks.specs.Looking.{is_out, is_func_decl, is_false, top_if, top_in_names, top_listed, top_by_above, top_below, top_by, top_at, top_of, sort_of, IsTopBy}
-use Rattle.argot_names_blocks.proofs.Listed.{some_is}
+use Rattle.argot_files.proofs.Listed.{some_is}
 use Rattle.argot_names_blocks.proofs.RoleKinds.{values_role, kind_role, are_values, are_kind, only_names, only_declared, func_decl_kind}
 use Rattle.argot_names_blocks.proofs.Finding.{spans_of, is_of, parent_found, found_parent, get_some}
 use Rattle.argot_names_blocks.proofs.Around.{is_outside, outside_is}

@@ -1,12 +1,7 @@
-pub mod Links
-pub mod Parents
-pub mod Keys
-pub mod Forms
 pub mod Blocks
 pub mod Roles
 pub mod Bringing
 pub mod Binding
-pub mod Marks
 pub mod Looking
 pub mod Listing
 pub mod Generics

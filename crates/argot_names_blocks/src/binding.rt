@@ -1,12 +1,12 @@
 // What one node brings into a block.
 ghost use Rattle.std.specs.Prelude.{◌≡◌, ◌+◌};
 ghost use Rattle.argot_names_blocks.specs.Blocks.{AreSomeBlocks};
-ghost use Rattle.argot_names_blocks.specs.Bringing.{in_block, listed, function_at, owner_at, list_at, function_of, received, declared_below, defined_from, begins_at, ends_at, clause_at, used_below, switched_in, name_at, behind_colon, switch_above, bring_of};
+ghost use Rattle.argot_names_blocks.specs.Bringing.{brought_in, listed, function_at, owner_at, list_at, function_of, received, declared_below, defined_from, begins_at, ends_at, clause_at, used_below, switched_in, name_at, behind_colon, switch_above, bring_of};
 ghost use Rattle.argot_names_blocks.specs.Roles.{role_of};
 
-use crate::blocks::{Block, block_around};
+use crate::blocks::{Block, Span, block_around};
 use crate::roles::{Role, role_of};
-use crate::tables::{Found, found_at, found_in};
+use crate::tables::{Found, Tables, found_at, found_in};
 use argot_tree::TreeNode;
 
 /// How a name comes into its block.
@@ -34,19 +34,17 @@ pub struct Binding {
     pub from: u64,
 }
 
-/// A name that comes into the innermost block around the token `at`.
-fn in_block(
-    blocks: &[Block],
-    at: u32,
+/// A name that comes into a block.
+fn brought_in(
+    block: Option<Span>,
     manner: BindingKind,
     node: usize,
     token: u32,
     from: u64,
 ) -> Option<Binding>
-    requires { AreSomeBlocks blocks.now }
-    ensures { result ≡ in_block blocks.now at manner node token from }
+    ensures { result ≡ brought_in block manner node token from }
 {
-    match block_around(blocks, at) {
+    match block {
         Some(span) => Some(Binding {
             manner,
             node,
@@ -67,23 +65,11 @@ fn listed(blocks: &[Block], k: usize, token: u32, above: Option<Found>) -> Optio
     match above {
         Some(stmt) => {
             let node = stmt.node;
+            let behind = node.last as u64 + 1;
+            let block = block_around(blocks, node.token);
             match role_of(node.kind) {
-                Role::Values => in_block(
-                    blocks,
-                    node.token,
-                    BindingKind::Specified,
-                    k,
-                    token,
-                    node.last as u64 + 1,
-                ),
-                Role::Define => in_block(
-                    blocks,
-                    node.token,
-                    BindingKind::Defined,
-                    k,
-                    token,
-                    node.last as u64 + 1,
-                ),
+                Role::Values => brought_in(block, BindingKind::Specified, k, token, behind),
+                Role::Define => brought_in(block, BindingKind::Defined, k, token, behind),
                 _ => None,
             }
         }
@@ -158,39 +144,26 @@ fn received(
 }
 
 /// A name that is declared, by the node above it.
-fn declared_below(
-    nodes: &[TreeNode],
-    parents: &[Option<usize>],
-    keys: &[Option<usize>],
-    blocks: &[Block],
-    k: usize,
-    token: u32,
-    found: Option<Found>,
-) -> Option<Binding>
-    requires { AreSomeBlocks blocks.now }
-    ensures { result ≡ declared_below nodes.now parents.now keys.now blocks.now k token found }
+fn declared_below(t: &Tables, k: usize, token: u32, found: Option<Found>) -> Option<Binding>
+    requires { AreSomeBlocks t.now.blocks.now }
+    ensures { result ≡ declared_below t.now.nodes.now t.now.parents.now t.now.keys.now t.now.blocks.now k token found }
 {
-    match found {
-        Some(above) => match role_of(above.node.kind) {
-            Role::Names => listed(blocks, k, token, found_in(nodes, parents, above.at)),
-            Role::Kind => in_block(
-                blocks,
-                above.node.token,
-                BindingKind::Specified,
-                k,
-                token,
-                token as u64,
-            ),
-            Role::Entry => received(
-                nodes,
-                keys,
-                k,
-                token,
-                list_at(nodes, parents, found_in(nodes, parents, above.at)),
-            ),
-            _ => None,
-        },
-        None => None,
+    let above = found?;
+    let further = found_in(t.nodes, t.parents, above.at);
+    match role_of(above.node.kind) {
+        Role::Names => listed(t.blocks, k, token, further),
+        Role::Kind => {
+            let block = block_around(t.blocks, above.node.token);
+            brought_in(block, BindingKind::Specified, k, token, token as u64)
+        }
+        Role::Entry => received(
+            t.nodes,
+            t.keys,
+            k,
+            token,
+            list_at(t.nodes, t.parents, further),
+        ),
+        _ => None,
     }
 }
 
@@ -243,59 +216,44 @@ pub fn linked(link: Option<u32>) -> Option<usize>
 
 /// A name among the expressions of a clause, by the clause.
 fn clause_at(
-    nodes: &[TreeNode],
-    keys: &[Option<usize>],
+    t: &Tables,
     k: usize,
     token: u32,
     list: TreeNode,
     found: Option<Found>,
 ) -> Option<Binding>
-    ensures { result ≡ clause_at nodes.now keys.now k token list found }
+    ensures { result ≡ clause_at t.now.nodes.now t.now.keys.now k token list found }
 {
-    match found {
-        Some(stmt) => match role_of(stmt.node.kind) {
-            Role::RangeDefine => defined_from(
-                k,
-                token,
-                stmt.node,
-                begins_at(found_in(nodes, keys, stmt.at)),
-            ),
-            Role::ReceiveDefine => defined_from(
-                k,
-                token,
-                stmt.node,
-                ends_at(found_at(nodes, linked(list.next))),
-            ),
-            _ => None,
-        },
-        None => None,
+    let stmt = found?;
+    match role_of(stmt.node.kind) {
+        Role::RangeDefine => {
+            let from = begins_at(found_in(t.nodes, t.keys, stmt.at));
+            defined_from(k, token, stmt.node, from)
+        }
+        Role::ReceiveDefine => {
+            let from = ends_at(found_at(t.nodes, linked(list.next)));
+            defined_from(k, token, stmt.node, from)
+        }
+        _ => None,
     }
 }
 
 /// A name in the place of a value, by the node above it.
-fn used_below(
-    nodes: &[TreeNode],
-    parents: &[Option<usize>],
-    keys: &[Option<usize>],
-    k: usize,
-    token: u32,
-    found: Option<Found>,
-) -> Option<Binding>
-    ensures { result ≡ used_below nodes.now parents.now keys.now k token found }
+fn used_below(t: &Tables, k: usize, token: u32, found: Option<Found>) -> Option<Binding>
+    ensures { result ≡ used_below t.now.nodes.now t.now.parents.now t.now.keys.now k token found }
 {
-    match found {
-        Some(list) => match role_of(list.node.kind) {
-            Role::Expressions => clause_at(
-                nodes,
-                keys,
+    let list = found?;
+    match role_of(list.node.kind) {
+        Role::Expressions => {
+            clause_at(
+                t,
                 k,
                 token,
                 list.node,
-                found_in(nodes, parents, list.at),
-            ),
-            _ => None,
-        },
-        None => None,
+                found_in(t.nodes, t.parents, list.at),
+            )
+        }
+        _ => None,
     }
 }
 
@@ -376,24 +334,16 @@ fn switch_above(
 }
 
 /// What node k brings.
-pub fn bring(
-    nodes: &[TreeNode],
-    parents: &[Option<usize>],
-    keys: &[Option<usize>],
-    blocks: &[Block],
-    k: usize,
-) -> Option<Binding>
-    requires { AreSomeBlocks blocks.now }
-    ensures { result ≡ bring_of nodes.now parents.now keys.now blocks.now k }
+pub fn bring(t: &Tables, k: usize) -> Option<Binding>
+    requires { AreSomeBlocks t.now.blocks.now }
+    ensures { result ≡ bring_of t.now.nodes.now t.now.parents.now t.now.keys.now t.now.blocks.now k }
 {
-    let Some(node) = nodes.get(k) else {
-        return None;
-    };
-    let above = found_in(nodes, parents, k);
+    let node = t.nodes.get(k)?;
+    let above = found_in(t.nodes, t.parents, k);
     match role_of(node.kind) {
-        Role::Declared => declared_below(nodes, parents, keys, blocks, k, node.token, above),
-        Role::Used => used_below(nodes, parents, keys, k, node.token, above),
-        Role::Case | Role::Default => switch_above(nodes, keys, k, *node, above),
+        Role::Declared => declared_below(t, k, node.token, above),
+        Role::Used => used_below(t, k, node.token, above),
+        Role::Case | Role::Default => switch_above(t.nodes, t.keys, k, *node, above),
         _ => None,
     }
 }

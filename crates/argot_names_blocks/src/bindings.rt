@@ -1,27 +1,24 @@
 // The blocks of one file, and what its nodes bring into scope and look up, as lists.
 ghost use Rattle.std.specs.Prelude.{◌≡◌, List, OnOk, IfOk};
-ghost use Rattle.argot_tree.specs.declared.token.Token.{Token};
-ghost use Rattle.argot_tree.specs.Trees.{SpellsTree};
 ghost use Rattle.argot_names_blocks.specs.Blocks.{AreBlocks};
 ghost use Rattle.argot_names_blocks.specs.Binding.{IsBinding};
-ghost use Rattle.argot_names_blocks.specs.Forms.{IsFormed};
+ghost use Rattle.argot_files.specs.Forms.{IsFormed};
 ghost use Rattle.argot_names_blocks.specs.Generics.{seen_of};
-ghost use Rattle.argot_names_blocks.specs.Keys.{AreKeys};
+ghost use Rattle.argot_files.specs.Keys.{AreKeys};
 ghost use Rattle.argot_names_blocks.specs.Listing.{added, ListsAll, IsSeen, IsMemberName, IsTopDeclared, AreBindings};
-ghost use Rattle.argot_names_blocks.specs.Marks.{AreMarks};
-ghost use Rattle.argot_names_blocks.specs.Parents.{AreParents};
-ghost use Rattle.argot_names_blocks.specs.declared.marks.Wanted.TheVariants.{Parameters};
+ghost use Rattle.argot_files.specs.Marks.{AreMarks};
+ghost use Rattle.argot_files.specs.Parents.{AreParents};
+ghost use Rattle.argot_files.specs.declared.marks.Wanted.TheVariants.{Parameters};
 
 use crate::binding::{Binding, bring};
 use crate::blocks::{Block, blocks_of};
 use crate::generics::{count_tokens, generics_of, has_dot};
-use crate::keys::key_children;
 use crate::lookup::{QualifiedName, is_key, looked_at, member_at};
-use crate::marks::{Wanted, marks_of};
-use crate::parents::parents_of;
+use crate::tables::Tables;
 use crate::tops::{TopName, top_at};
+use argot_files::{File, Wanted, marks_of};
 use argot_text::Memory;
-use argot_tree::{Tree, TreeNode};
+use argot_tree::TreeNode;
 use std::alloc::Global;
 
 /// A name that is looked up, by its node and its token, and whether it is a lone key of a composite literal.
@@ -57,42 +54,30 @@ fn add<T: Copy>(list: &mut Vec<T>, item: Option<T>) -> Result<(), Memory>
 }
 
 /// All that the nodes bring into the blocks of functions.
-fn list_brought(
-    alloc: Global,
-    nodes: &[TreeNode],
-    parents: &[Option<usize>],
-    keys: &[Option<usize>],
-    blocks: &[Block],
-) -> Result<Vec<Binding>, Memory>
-    requires formed { IsFormed nodes.now }
-    requires parents { AreParents nodes.now parents.now }
-    requires keys { AreKeys nodes.now keys.now }
-    requires blocks { AreBlocks nodes.now blocks.now }
-    ensures { IfOk result (λ v. ListsAll (λ x. x.node) (IsBinding nodes.now) v.items) }
+fn list_brought(alloc: Global, t: &Tables) -> Result<Vec<Binding>, Memory>
+    requires formed { IsFormed t.now.nodes.now }
+    requires parents { AreParents t.now.nodes.now t.now.parents.now }
+    requires keys { AreKeys t.now.nodes.now t.now.keys.now }
+    requires blocks { AreBlocks t.now.nodes.now t.now.blocks.now }
+    ensures { IfOk result (λ v. ListsAll (λ x. x.node) (IsBinding t.now.nodes.now) v.items) }
 {
     let mut list = Vec::new(alloc);
-    for k in 0..nodes.len() {
-        add(&mut list, bring(nodes, parents, keys, blocks, k))?;
+    for k in 0..t.nodes.len() {
+        add(&mut list, bring(t, k))?;
     }
     Ok(list)
 }
 
 /// All that the nodes declare outside functions.
-fn list_tops(
-    alloc: Global,
-    nodes: &[TreeNode],
-    parents: &[Option<usize>],
-    blocks: &[Block],
-    receivers: &[bool],
-) -> Result<Vec<TopName>, Memory>
-    requires parents { AreParents nodes.now parents.now }
-    requires blocks { AreBlocks nodes.now blocks.now }
-    requires receivers { AreMarks nodes.now Parameters receivers.now }
-    ensures { IfOk result (λ v. ListsAll (λ x. x.node) (IsTopDeclared nodes.now) v.items) }
+fn list_tops(alloc: Global, t: &Tables) -> Result<Vec<TopName>, Memory>
+    requires parents { AreParents t.now.nodes.now t.now.parents.now }
+    requires blocks { AreBlocks t.now.nodes.now t.now.blocks.now }
+    requires receivers { AreMarks t.now.nodes.now Parameters t.now.receivers.now }
+    ensures { IfOk result (λ v. ListsAll (λ x. x.node) (IsTopDeclared t.now.nodes.now) v.items) }
 {
     let mut list = Vec::new(alloc);
-    for k in 0..nodes.len() {
-        add(&mut list, top_at(nodes, parents, blocks, receivers, k))?;
+    for k in 0..t.nodes.len() {
+        add(&mut list, top_at(t, k))?;
     }
     Ok(list)
 }
@@ -144,20 +129,24 @@ fn list_looked(
 }
 
 /// What the nodes of a file bring and look up.
-pub fn bindings_of(alloc: Global, tree: &Tree) -> Result<Bindings, Memory>
-    requires { (tokens : List Token) × SpellsTree tree.now tokens }
-    ensures { IfOk result (AreBindings tree.now.nodes) }
+pub fn bindings_of(alloc: Global, file: &File) -> Result<Bindings, Memory>
+    ensures { IfOk result (AreBindings file.now.nodes) }
 {
-    let nodes = tree.nodes.as_slice();
-    let parents = parents_of(alloc, tree)?;
-    let keys = key_children(alloc, tree, &parents)?;
-    let blocks = blocks_of(alloc, tree)?;
-    let receivers = marks_of(alloc, tree, &parents, Wanted::Parameters)?;
-    let marks = marks_of(alloc, tree, &parents, Wanted::TypeParameters)?;
-    let brought = list_brought(alloc, nodes, &parents, &keys, &blocks)?;
-    let tops = list_tops(alloc, nodes, &parents, &blocks, &receivers)?;
-    let looked = list_looked(alloc, nodes, &parents)?;
-    let dotted = list_dotted(alloc, nodes, &parents)?;
+    let nodes = file.nodes();
+    let parents = file.parents();
+    let blocks = blocks_of(alloc, nodes)?;
+    let tables = Tables {
+        nodes,
+        parents,
+        keys: file.keys(),
+        receivers: file.receivers(),
+        blocks: blocks.as_slice(),
+    };
+    let brought = list_brought(alloc, &tables)?;
+    let tops = list_tops(alloc, &tables)?;
+    let looked = list_looked(alloc, nodes, parents)?;
+    let dotted = list_dotted(alloc, nodes, parents)?;
+    let marks = marks_of(alloc, nodes, parents, Wanted::TypeParameters)?;
     let generics = generics_of(alloc, nodes, &marks, count_tokens(nodes))?;
     Ok(Bindings {
         blocks,

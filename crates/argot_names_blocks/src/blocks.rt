@@ -2,12 +2,12 @@
 ghost use Rattle.std.specs.Prelude.{◌≡◌, ℕ, ◌+◌, ◌<◌, ◌≤◌, List, Some, length, slice_get, OnOk, IfOk};
 ghost use Rattle.argot_tree.specs.declared.tree.TreeNode.{TreeNode};
 ghost use Rattle.argot_names_rules.specs.Blocks.{is_block};
-ghost use Rattle.argot_names_blocks.specs.Forms.{IsFormed};
+ghost use Rattle.argot_files.specs.Forms.{IsFormed};
 ghost use Rattle.argot_names_blocks.specs.Blocks.{AreBlocks, AreSomeBlocks, IsInnermostIn, BeginBy, AreLinked, IsLastTo, AreBlocksUpTo, span_in};
 
 use crate::tables::node_at;
 use argot_text::Memory;
-use argot_tree::{NodeKind, Tree, TreeNode};
+use argot_tree::{NodeKind, TreeNode};
 use std::alloc::Global;
 
 /// A block, by its first token and its last, and the number of the innermost block around it, where there is one.
@@ -136,11 +136,10 @@ fn enclose(nodes: &[TreeNode], k: usize, blocks: &mut Vec<Block>) -> Result<(), 
 }
 
 /// The blocks of the tree, in the order of their first tokens.
-pub fn blocks_of(alloc: Global, tree: &Tree) -> Result<Vec<Block>, Memory>
-    requires { IsFormed tree.now.nodes }
-    ensures { IfOk result (λ v. AreBlocks tree.now.nodes v.items) }
+pub fn blocks_of(alloc: Global, nodes: &[TreeNode]) -> Result<Vec<Block>, Memory>
+    requires { IsFormed nodes.now }
+    ensures { IfOk result (λ v. AreBlocks nodes.now v.items) }
 {
-    let nodes = tree.nodes.as_slice();
     let mut blocks = Vec::new(alloc);
     for k in 0..nodes.len() {
         enclose(nodes, k, &mut blocks)?;

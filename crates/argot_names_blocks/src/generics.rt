@@ -3,9 +3,9 @@ ghost use Rattle.std.specs.Prelude.{◌≡◌, ◌+◌, ◌<◌, ◌&&◌, lengt
 ghost use Rattle.argot_names_rules.specs.Uses.{may_be_generic};
 ghost use Rattle.argot_names_blocks.specs.Generics.{BeginBefore, PaintsTrue, is_true, dot_at, is_dot_of};
 ghost use Rattle.argot_names_blocks.specs.Listing.{AreGenerics, AreGenericsUpTo, TellsDot};
-ghost use Rattle.argot_names_blocks.specs.Marks.{AreMarks};
+ghost use Rattle.argot_files.specs.Marks.{AreMarks};
 ghost use Rattle.argot_names_blocks.specs.Roles.{role_of};
-ghost use Rattle.argot_names_blocks.specs.declared.marks.Wanted.TheVariants.{TypeParameters};
+ghost use Rattle.argot_files.specs.declared.marks.Wanted.TheVariants.{TypeParameters};
 
 use crate::binding::linked;
 use crate::roles::{Role, role_of};

@@ -2,7 +2,19 @@
 ghost use Rattle.std.specs.Prelude.{◌≡◌, ◌<◌, Some, length, slice_get};
 ghost use Rattle.argot_names_blocks.specs.Bringing.{found_at, found_in};
 
+use crate::blocks::Block;
 use argot_tree::TreeNode;
+
+/// The nodes of a file, the tables that go with them by number (parents, children that are looked for, methods), and its
+/// blocks.
+#[derive(Clone, Copy)]
+pub struct Tables<'a> {
+    pub nodes: &'a [TreeNode],
+    pub parents: &'a [Option<usize>],
+    pub keys: &'a [Option<usize>],
+    pub receivers: &'a [bool],
+    pub blocks: &'a [Block],
+}
 
 /// A node with its number.
 #[derive(Clone, Copy, Debug, PartialEq, Eq)]
@@ -17,14 +29,6 @@ pub fn node_at(nodes: &[TreeNode], k: usize) -> TreeNode
     ensures { slice_get nodes.now k ≡ Some result }
 {
     nodes[k]
-}
-
-/// Entry k.
-pub fn entry_at(table: &[Option<usize>], k: usize) -> Option<usize>
-    requires { k < length table.now }
-    ensures { slice_get table.now k ≡ Some result }
-{
-    table[k]
 }
 
 /// The node of this number, if there is one.

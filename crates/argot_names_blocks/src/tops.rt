@@ -6,8 +6,8 @@ ghost use Rattle.argot_names_blocks.specs.Roles.{role_of};
 
 use crate::blocks::{Block, block_around};
 use crate::roles::{Role, role_of};
-use crate::tables::{Found, found_in};
-use argot_tree::{NodeKind, TreeNode};
+use crate::tables::{Found, Tables, found_in};
+use argot_tree::NodeKind;
 
 /// What a name stands for that is declared outside functions.
 #[derive(Clone, Copy, Debug, PartialEq, Eq)]
@@ -84,56 +84,30 @@ fn top_listed(blocks: &[Block], k: usize, token: u32, found: Option<Found>) -> O
 }
 
 /// A name that is declared, by the node above it.
-fn top_below(
-    nodes: &[TreeNode],
-    parents: &[Option<usize>],
-    blocks: &[Block],
-    receivers: &[bool],
-    k: usize,
-    token: u32,
-    found: Option<Found>,
-) -> Option<TopName>
-    requires { AreSomeBlocks blocks.now }
-    ensures { result ≡ top_below nodes.now parents.now blocks.now receivers.now k token found }
+fn top_below(t: &Tables, k: usize, token: u32, found: Option<Found>) -> Option<TopName>
+    requires { AreSomeBlocks t.now.blocks.now }
+    ensures { result ≡ top_below t.now.nodes.now t.now.parents.now t.now.blocks.now t.now.receivers.now k token found }
 {
-    match found {
-        Some(above) => match role_of(above.node.kind) {
-            Role::Names => top_listed(blocks, k, token, found_in(nodes, parents, above.at)),
-            Role::Kind => top_if(is_out(blocks, above.node.token), Sort::Kind, k, token),
-            Role::Function => {
-                let is_function = is_func_decl(above.node.kind) && is_unmarked(receivers, above.at);
-                top_if(is_function, Sort::Function, k, token)
-            }
-            _ => None,
-        },
-        None => None,
+    let above = found?;
+    match role_of(above.node.kind) {
+        Role::Names => top_listed(t.blocks, k, token, found_in(t.nodes, t.parents, above.at)),
+        Role::Kind => top_if(is_out(t.blocks, above.node.token), Sort::Kind, k, token),
+        Role::Function => {
+            let is_function = is_func_decl(above.node.kind) && is_unmarked(t.receivers, above.at);
+            top_if(is_function, Sort::Function, k, token)
+        }
+        _ => None,
     }
 }
 
-/// What node k declares outside functions. `receivers` marks the methods.
-pub fn top_at(
-    nodes: &[TreeNode],
-    parents: &[Option<usize>],
-    blocks: &[Block],
-    receivers: &[bool],
-    k: usize,
-) -> Option<TopName>
-    requires { AreSomeBlocks blocks.now }
-    ensures { result ≡ top_of nodes.now parents.now blocks.now receivers.now k }
+/// What node k declares outside functions.
+pub fn top_at(t: &Tables, k: usize) -> Option<TopName>
+    requires { AreSomeBlocks t.now.blocks.now }
+    ensures { result ≡ top_of t.now.nodes.now t.now.parents.now t.now.blocks.now t.now.receivers.now k }
 {
-    match nodes.get(k) {
-        Some(node) => match role_of(node.kind) {
-            Role::Declared => top_below(
-                nodes,
-                parents,
-                blocks,
-                receivers,
-                k,
-                node.token,
-                found_in(nodes, parents, k),
-            ),
-            _ => None,
-        },
-        None => None,
+    let node = t.nodes.get(k)?;
+    match role_of(node.kind) {
+        Role::Declared => top_below(t, k, node.token, found_in(t.nodes, t.parents, k)),
+        _ => None,
     }
 }

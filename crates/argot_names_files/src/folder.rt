@@ -1,5 +1,7 @@
 // A folder's files with the texts of the library behind them.
 ghost use Rattle.std.specs.Prelude.{◌≡◌, ◌<◌, ◌++◌, ◌∷◌, [], ◌^◌, length, IfOk, OnOk};
+ghost use Rattle.argot_files.specs.Reading.{files_in};
+ghost use Rattle.argot_names_imports.specs.Reads.{handed};
 ghost use Rattle.argot_names_rules.specs.Agreeing.{library_path};
 ghost use Rattle.argot_stubs.specs.Stubs.{HasStub};
 ghost use Rattle.argot_names_files.specs.Files.{AreFiles};
@@ -8,6 +10,7 @@ ghost use Rattle.argot_names_files.specs.Library.{IsText, IsFolder};
 
 use crate::library::library_path;
 use crate::reading::{Readings, read_text};
+use argot_files::Files;
 use argot_stubs::stub;
 use argot_text::{Memory, Sequence, Sources, Text};
 use argot_tree::{Lexed, Tree};
@@ -19,6 +22,19 @@ pub struct Folder {
     pub sources: Sources,
     pub lexed: Vec<Lexed>,
     pub trees: Vec<Tree>,
+}
+
+impl Folder {
+    /// The files, for the calls on packages and names.
+    pub fn files(&self) -> Files
+        ensures { files_in result ≡ handed self.now.sources self.now.lexed.items self.now.trees.items }
+    {
+        Files {
+            sources: &self.sources,
+            lexed: self.lexed.as_slice(),
+            trees: self.trees.as_slice(),
+        }
+    }
 }
 
 /// A text of the library under its path as a file, and what is read of it.

@@ -114,7 +114,8 @@ pub fn sources_of(
     ensures module_is { IfOk result (λ o. IfSome o (λ s. s.«module» ≡ «module»)) }
     ensures go_line { IfOk result (λ o. IfSome o (λ s. s.go_line ≡ go_line)) }
     ensures some { IfOk result (λ o. IfSome o AreFiles) }
-    ensures none { IfOk result (λ o. IfNone o ((s : Sources) → s.paths ≡ paths → s.contents ≡ contents.items → AreFiles s → ⊥)) }
+    ensures none { IfOk result (λ o. IfNone o ((s : Sources) → s.paths ≡ paths → s.contents ≡ contents.items
+        → AreFiles s → ⊥)) }
 {
     if !agree(paths.as_slice(), contents.as_slice()) {
         return Ok(None);

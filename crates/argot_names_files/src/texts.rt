@@ -25,7 +25,8 @@ pub fn folder_of_texts(
     go_line: Option<(u32, u32)>,
 ) -> Result<Option<Folder>, ReadingFault>
     ensures agrees { IfOk result (λ o. IfSome o (λ f. Agrees (handed f.sources f.lexed.items f.trees.items))) }
-    ensures library { IfOk result (λ o. IfSome o (λ f. (main : List ℕ) → HasLibrary (handed f.sources f.lexed.items f.trees.items) main)) }
+    ensures library { IfOk result (λ o. IfSome o (λ f. (main : List ℕ)
+        → HasLibrary (handed f.sources f.lexed.items f.trees.items) main)) }
 {
     let mut paths = Texts::new(alloc);
     let mut contents = Vec::new(alloc);

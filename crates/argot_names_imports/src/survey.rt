@@ -5,6 +5,7 @@ ghost use Rattle.argot_names_imports.specs.declared.find.Found.{Found};
 ghost use Rattle.argot_names_imports.specs.Firsts.{found_at};
 ghost use Rattle.argot_names_imports.specs.Found.{HasTables};
 ghost use Rattle.argot_names_imports.specs.Graph.{target_of, AreReached};
+ghost use Rattle.argot_files.specs.Reading.{files_in};
 ghost use Rattle.argot_names_imports.specs.Reads.{handed};
 ghost use Rattle.argot_names_imports.specs.Surveyed.{IsSurvey};
 
@@ -16,6 +17,7 @@ use crate::graph::graph_of;
 use crate::leaders::leaders_of;
 use crate::reaching::reach_from;
 use crate::written::Written;
+use argot_files::Files;
 use argot_text::{Memory, Sources};
 use argot_tree::{Lexed, Tree};
 use indexmap::{IndexMap, IndexSet};
@@ -60,23 +62,21 @@ fn surveyed(
     folders: &IndexMap<&[u8], u32>,
     libraries: &IndexMap<&[u8], u32>,
     start: u32,
-    sources: &Sources,
-    lexed: &[Lexed],
-    trees: &[Tree],
+    files: &Files,
 ) -> Result<Survey, Memory>
-    requires tables { HasTables (handed sources.now lexed.now trees.now) sources.now.«module» folders.now libraries.now }
+    requires tables { HasTables (files_in files.now) files.now.sources.now.«module» folders.now libraries.now }
     requires start { (main : List ℕ) × (found_at folders.now main ≡ Some start) }
-    ensures { (main : List ℕ) → found_at folders.now main ≡ Some start → IfOk result (IsSurvey (handed sources.now lexed.now trees.now) main) }
+    ensures { (main : List ℕ) → found_at folders.now main ≡ Some start → IfOk result (IsSurvey (files_in files.now) main) }
 {
-    let imports = all_imports(alloc, sources, lexed, trees)?;
+    let imports = all_imports(alloc, files)?;
     let founds = founds_of(
         alloc,
         folders,
         libraries,
-        sources.module.as_str().as_bytes(),
+        files.sources.module.as_str().as_bytes(),
         &imports,
     )?;
-    let leaders = leaders_of(alloc, folders, libraries, &sources.paths)?;
+    let leaders = leaders_of(alloc, folders, libraries, &files.sources.paths)?;
     let reached = packages_from(alloc, start, &leaders, &imports, &founds)?;
     Ok(Survey {
         imports,
@@ -87,21 +87,15 @@ fn surveyed(
 }
 
 /// The survey from a main folder; none where it isn't there.
-pub fn survey_from(
-    alloc: Global,
-    sources: &Sources,
-    lexed: &[Lexed],
-    trees: &[Tree],
-    main: &str,
-) -> Result<Option<Survey>, Memory>
-    ensures there { IfOk result (λ o. IfSome o (IsSurvey (handed sources.now lexed.now trees.now) main.now)) }
-    ensures missing { IfOk result (λ o. IfNone o (IsFolder (handed sources.now lexed.now trees.now) main.now → ⊥)) }
+pub fn survey_from(alloc: Global, files: &Files, main: &str) -> Result<Option<Survey>, Memory>
+    ensures there { IfOk result (λ o. IfSome o (IsSurvey (files_in files.now) main.now)) }
+    ensures missing { IfOk result (λ o. IfNone o (IsFolder (files_in files.now) main.now → ⊥)) }
 {
-    let folders = firsts_of(alloc, Sort::Folders, &sources.paths)?;
-    let libraries = firsts_of(alloc, Sort::Libraries, &sources.paths)?;
+    let folders = firsts_of(alloc, Sort::Folders, &files.sources.paths)?;
+    let libraries = firsts_of(alloc, Sort::Libraries, &files.sources.paths)?;
     let Some(start) = folders.get(main.as_bytes()).copied() else {
         return Ok(None);
     };
-    let made = surveyed(alloc, &folders, &libraries, start, sources, lexed, trees)?;
+    let made = surveyed(alloc, &folders, &libraries, start, files)?;
     Ok(Some(made))
 }

@@ -81,7 +81,8 @@ fn words_of<'a>(line: &'a [u8], word: &[u8]) -> Option<Line<'a>>
 pub fn first_line<'a>(bytes: &'a [u8], word: &[u8]) -> Option<Line<'a>>
     requires { length bytes.now < 2 ^ 63 }
     ensures some { IfSome result (λ l. FirstLine bytes.now word.now l.offset l.second.now) }
-    ensures one { IfSome result (λ l. (offset : ℕ) (second : List ℕ) → FirstLine bytes.now word.now offset second → (offset ≡ l.offset) × (second ≡ l.second.now)) }
+    ensures one { IfSome result (λ l. (offset : ℕ) (second : List ℕ)
+        → FirstLine bytes.now word.now offset second → (offset ≡ l.offset) × (second ≡ l.second.now)) }
     ensures none { IfNone result ((offset : ℕ) (second : List ℕ) → FirstLine bytes.now word.now offset second → ⊥) }
 {
     let mut at = 0;

@@ -15,7 +15,7 @@ use Rattle.argot_names_imports.specs.Found.IsFound.{folder, library, unhanded, l
 use Rattle.argot_names_imports.specs.Surveyed.{IsSurvey}
 use Rattle.argot_names_imports.proofs.Lists.{get_below, get_there}
 use Rattle.argot_names_imports.proofs.Standing.{reached_leader, leader_reached}
-use Rattle.argot_names_packages.specs.declared.spot.Spot.{Spot}
+use Rattle.argot_files.specs.declared.place.Place.{Place as Spot}
 use Rattle.argot_names_packages.specs.Spots.{spot_in, IsAt}
 use Rattle.argot_names_packages.specs.Standing.{IsLedBy}
 use Rattle.argot_names_packages.specs.Missing.{is_nothing, IsMissingAt}

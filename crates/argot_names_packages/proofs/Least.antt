@@ -3,8 +3,10 @@ use Rattle.std.proofs.Common.{◌≡◌, ℕ, ◌+◌, ◌<◌, ◌⊎◌, inl, 
 use Rattle.std.specs.Prelude.{◌||◌, ◌&&◌, ◌↔◌, if◌then◌else◌}
 use Rattle.std.proofs.lemmas.Bool.{cases_eq, eqb-true, eq-eqb, ltb-true, lt-ltb}
 use Rattle.argot_names_rules.specs.Files.{Place, IsBefore, by_file, by_offset}
-use Rattle.argot_names_packages.specs.declared.spot.Spot.{Spot}
-use Rattle.argot_names_packages.specs.Spots.{place_of, before, comes_first, sooner_of, IsAt, IsLeast, found, none, IsBelow}
+use Rattle.argot_files.specs.declared.place.Place.{Place as Spot}
+use Rattle.argot_files.specs.Places.{place_of}
+use Rattle.argot_files.specs.Places.{before}
+use Rattle.argot_names_packages.specs.Spots.{comes_first, sooner_of, IsAt, IsLeast, found, none, IsBelow}
 
 some_is : {A : Type 0} (x y : A) → Some x ≡ Some y → x ≡ y
 some_is x y e = cc

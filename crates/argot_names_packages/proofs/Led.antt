@@ -8,8 +8,9 @@ use Rattle.argot_tree.specs.declared.lexed.Lexed.{Lexed}
 use Rattle.argot_names_rules.specs.Lists.{In}
 use Rattle.argot_names_rules.specs.Files.{SourceFiles, Place, Begins}
 use Rattle.argot_names_imports.specs.Reads.{tokens_at}
-use Rattle.argot_names_packages.specs.declared.spot.Spot.{Spot}
-use Rattle.argot_names_packages.specs.Spots.{place_of, spot_of, spot_in, IsAt}
+use Rattle.argot_files.specs.declared.place.Place.{Place as Spot}
+use Rattle.argot_files.specs.Places.{place_of}
+use Rattle.argot_names_packages.specs.Spots.{spot_of, spot_in, IsAt}
 
 one_of : (b c : Bool) → (b || c) ≡ true → (b ≡ true) ⊎ (c ≡ true)
 one_of true c e = inl refl

@@ -6,8 +6,9 @@ use Rattle.argot_names_rules.specs.Files.{Place, IsBefore}
 use Rattle.argot_names_imports.specs.declared.written.Written.{Written}
 use Rattle.argot_names_imports.specs.declared.survey.Survey.{Survey}
 use Rattle.argot_names_imports.specs.Graph.{target_of, Reaches}
-use Rattle.argot_names_packages.specs.declared.spot.Spot.{Spot}
-use Rattle.argot_names_packages.specs.Spots.{place_of, spot_in, comes_first, IsAt, IsLeast, IsBelow}
+use Rattle.argot_files.specs.declared.place.Place.{Place as Spot}
+use Rattle.argot_files.specs.Places.{place_of}
+use Rattle.argot_names_packages.specs.Spots.{spot_in, comes_first, IsAt, IsLeast, IsBelow}
 use Rattle.argot_names_packages.specs.Cycles.{IsStepAt, IsCycleAt}
 use Rattle.argot_names_packages.proofs.Least.{first_before, not_first, least_kept, least_new}
 

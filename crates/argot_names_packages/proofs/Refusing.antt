@@ -7,8 +7,9 @@ use Rattle.argot_names_rules.specs.declared.fault.NameFault.{NameFault}
 use Rattle.argot_names_rules.specs.declared.fault.NameFault.TheVariants as faults
 use Rattle.std.specs.Prelude.{Result, Ok, Err, IfErr, OnOk}
 use Rattle.std.specs.Result.{IsErrAnd}
-use Rattle.argot_names_packages.specs.declared.spot.Spot.{Spot}
-use Rattle.argot_names_packages.specs.Spots.{place_of, IsLeast, found, none}
+use Rattle.argot_files.specs.declared.place.Place.{Place as Spot}
+use Rattle.argot_files.specs.Places.{place_of}
+use Rattle.argot_names_packages.specs.Spots.{IsLeast, found, none}
 
 pub least_found : (Holds : Place → Type 0) (o : Option Spot) (spot : Spot) → IsLeast Holds o → o ≡ Some spot → IsFirst Holds (place_of spot)
 least_found Holds _ spot (found {spot = s} first) e = subst (λ (x : Spot). IsFirst Holds (place_of x)) (some_is s spot e) first

@@ -9,13 +9,13 @@ use Rattle.argot_tree.specs.declared.tree.TreeNode.{TreeNode}
 use Rattle.argot_names_rules.specs.Files.{SourceFiles, Place, SourceFile, read_of, text_at}
 use Rattle.argot_names_rules.specs.Packages.{HasClause}
 use Rattle.argot_names_rules.specs.Faults.{IsSecondName}
-use Rattle.argot_names_blocks.proofs.Finding.{spans_of}
+use Rattle.argot_files.proofs.Nodes.{spans_of}
 use Rattle.argot_names_imports.specs.declared.survey.Survey.{Survey}
 use Rattle.argot_names_imports.specs.Surveyed.{IsSurvey}
 use Rattle.argot_names_imports.proofs.FirstFiles.{same_text, text_same}
 use Rattle.argot_names_imports.proofs.Lists.{get_below}
 use Rattle.argot_names_imports.proofs.Standing.{first_is_one, reached_leader, leader_reached}
-use Rattle.argot_names_packages.specs.declared.spot.Spot.{Spot}
+use Rattle.argot_files.specs.declared.place.Place.{Place as Spot}
 use Rattle.argot_names_packages.specs.Spots.{spot_in, IsAt}
 use Rattle.argot_names_packages.specs.Standing.{IsLedBy}
 use Rattle.argot_names_packages.specs.Clauses.{first_of, token_if, declared_at, clause_of, name_in}

@@ -1,14 +1,11 @@
 -- Bytes of files as the code has them, and the least one of those that a claim holds of.
-use Rattle.std.specs.Prelude.{◌≡◌, ◌<◌, ℕ, nat_eq, nat_lt, Bool, true, ◌||◌, ◌&&◌, List, Option, Some, None, slice_get, if◌then◌else◌}
+use Rattle.std.specs.Prelude.{◌≡◌, ◌<◌, ℕ, Bool, true, List, Option, Some, None, slice_get, if◌then◌else◌}
 use Rattle.argot_tree.specs.declared.lexed.Lexed.{Lexed}
 use Rattle.argot_tree.specs.declared.token.Token.{Token}
 use Rattle.argot_names_rules.specs.Files.{Place, IsFirst}
 use Rattle.argot_names_imports.specs.Reads.{tokens_at}
-use Rattle.argot_names_packages.specs.declared.spot.Spot.{Spot}
-
--- the byte as a place
-abbrev pub place_of : Spot → Place
-place_of spot = record { file = spot.file; offset = spot.offset }
+use Rattle.argot_files.specs.Places.{place_of, before}
+use Rattle.argot_files.specs.declared.place.Place.{Place as Spot}
 
 -- where a token of a file begins
 abbrev pub spot_of : ℕ → Option Token → Option Spot
@@ -23,10 +20,6 @@ pub record IsAt (o : Option Spot) (place : Place) : Type 0 where
   pub spot : Spot
   pub is : o ≡ Some spot
   pub place_is : place_of spot ≡ place
-
--- by file, and in a file by offset
-abbrev pub before : Spot → Spot → Bool
-before a b = nat_lt a.file b.file || (nat_eq a.file b.file && nat_lt a.offset b.offset)
 
 abbrev pub comes_first : Spot → Option Spot → Bool
 comes_first spot None = true

@@ -9,8 +9,9 @@ ghost use Rattle.argot_names_packages.specs.Cycles.{IsStepAt, IsCycleAt};
 
 use crate::falling::all_fall;
 use crate::ranks::ranks_of;
-use crate::spot::{Spot, is_first, spot_at};
+use crate::spot::{is_first, spot_at};
 use crate::standing::{has, reached_leader};
+use argot_files::Place;
 use argot_links::Chains;
 use argot_names_imports::{Survey, found_at, graph_of, import_at, reach_from, target_of};
 use argot_text::Memory;
@@ -58,15 +59,16 @@ fn next_cycle(
     survey: &Survey,
     lexed: &[Lexed],
     graph: &Chains,
-    least: Option<Spot>,
+    least: Option<Place>,
     k: usize,
-) -> Result<Option<Spot>, Memory>
+) -> Result<Option<Place>, Memory>
     requires imports { k < length survey.now.imports.items }
     requires founds { k < length survey.now.founds.items }
     requires small { length graph.now.lists < 2 ^ 32 }
     requires targets { (from to : ℕ) → IsStepAt survey.now k from to → to < length graph.now.lists }
     requires below { (l t : ℕ) → Leads graph.now.lists l t → t < length graph.now.lists }
-    ensures { IsLeast (IsBelow (IsCycleAt survey.now lexed.now graph.now.lists) k) least → IfOk result (IsLeast (IsBelow (IsCycleAt survey.now lexed.now graph.now.lists) (k + 1))) }
+    ensures { IsLeast (IsBelow (IsCycleAt survey.now lexed.now graph.now.lists) k) least
+        → IfOk result (IsLeast (IsBelow (IsCycleAt survey.now lexed.now graph.now.lists) (k + 1))) }
 {
     let Some(step) = step_at(survey, k) else {
         return Ok(least);
@@ -91,12 +93,13 @@ fn first_cycle(
     survey: &Survey,
     lexed: &[Lexed],
     graph: &Chains,
-) -> Result<Option<Spot>, Memory>
+) -> Result<Option<Place>, Memory>
     requires as_many { length survey.now.founds.items ≡ length survey.now.imports.items }
     requires small { length graph.now.lists < 2 ^ 32 }
     requires targets { (k from to : ℕ) → IsStepAt survey.now k from to → to < length graph.now.lists }
     requires below { (l t : ℕ) → Leads graph.now.lists l t → t < length graph.now.lists }
-    ensures { IfOk result (IsLeast (IsBelow (IsCycleAt survey.now lexed.now graph.now.lists) (length survey.now.imports.items))) }
+    ensures { IfOk result (IsLeast (IsBelow (IsCycleAt survey.now lexed.now graph.now.lists)
+        (length survey.now.imports.items))) }
 {
     let mut least = None;
     for k in 0..survey.imports.len() {
@@ -106,9 +109,10 @@ fn first_cycle(
 }
 
 /// The first import of a package that is reached whose package leads back to the one that imports it.
-pub fn cycle(alloc: Global, survey: &Survey, lexed: &[Lexed]) -> Result<Option<Spot>, Memory>
+pub fn cycle(alloc: Global, survey: &Survey, lexed: &[Lexed]) -> Result<Option<Place>, Memory>
     requires { (h : SourceFiles) × (main : List ℕ) × IsSurvey h main survey.now }
-    ensures { (h : SourceFiles) (main : List ℕ) → h.lexed ≡ lexed.now → IsSurvey h main survey.now → IfOk result (IsLeast (IsOnCycle h main)) }
+    ensures { (h : SourceFiles) (main : List ℕ) → h.lexed ≡ lexed.now → IsSurvey h main survey.now
+        → IfOk result (IsLeast (IsOnCycle h main)) }
 {
     let Some(start) = survey.reached.get_index(0).copied() else {
         return Ok(None);

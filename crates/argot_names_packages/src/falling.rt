@@ -32,7 +32,8 @@ fn falls(graph: &Chains, ranks: &[u32], node: u32) -> bool
 /// Each edge of a node that is reached leads to a lower rank. No memory.
 pub fn all_fall(graph: &Chains, reached: &IndexSet<u32>, ranks: &[u32], count: u32) -> bool
     requires { length graph.now.lists ≡ count }
-    ensures { result ≡ true → (l t : ℕ) → l < count → In l reached.now.keys → Leads graph.now.lists l t → rank_of ranks.now t < rank_of ranks.now l }
+    ensures { result ≡ true → (l t : ℕ) → l < count → In l reached.now.keys → Leads graph.now.lists l t
+        → rank_of ranks.now t < rank_of ranks.now l }
 {
     for node in 0..count {
         if has(reached, node) && !falls(graph, ranks, node) {

@@ -29,5 +29,5 @@ pub use cycles::cycle;
 pub use main_function::has_main;
 pub use reaching::reach;
 pub use second::second_name;
-pub use spot::{Spot, pos_at, spot_at};
+pub use spot::{pos_at, spot_at};
 pub use unfound::missing;

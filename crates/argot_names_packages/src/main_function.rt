@@ -6,6 +6,7 @@ ghost use Rattle.argot_tree.specs.Trees.{SpellsTree};
 ghost use Rattle.argot_names_rules.specs.Files.{read_of};
 ghost use Rattle.argot_names_rules.specs.Agreeing.{Agrees};
 ghost use Rattle.argot_names_rules.specs.Faults.{HasMain};
+ghost use Rattle.argot_files.specs.Reading.{files_in};
 ghost use Rattle.argot_names_imports.specs.Reads.{handed};
 ghost use Rattle.argot_names_imports.specs.Surveyed.{IsSurvey};
 ghost use Rattle.argot_names_packages.specs.Standing.{IsLedBy};
@@ -14,41 +15,40 @@ ghost use Rattle.argot_names_packages.specs.Mains.{is_main_name, HasMainNode, Ha
 use crate::clause::clause_name;
 use crate::main_node::{is_main_at, is_main_text};
 use crate::standing::reached_leader;
-use argot_names_blocks::{Wanted, marks_of, parents_of};
+use argot_files::{File, Files};
 use argot_names_imports::{Survey, bytes_at, tokens_at};
 use argot_text::{Memory, Sources};
-use argot_tree::{Lexed, Token, Tree};
+use argot_tree::{Lexed, Tree};
 use std::alloc::Global;
 
 // The file has a function `main`.
-fn has_main_node(alloc: Global, bytes: &[u8], tokens: &[Token], tree: &Tree) -> Result<bool, Memory>
-    requires { (spelled : List Token) × SpellsTree tree.now spelled }
-    ensures { IfOk result (λ b. b ≡ true ↔ HasMainNode (record { bytes = bytes.now; tokens = tokens.now; nodes = tree.now.nodes })) }
+fn has_main_node(file: &File) -> bool
+    ensures { IsTrue result ↔ HasMainNode file.now }
 {
-    let nodes = tree.nodes.as_slice();
-    let parents = parents_of(alloc, tree)?;
-    let receivers = marks_of(alloc, tree, &parents, Wanted::Parameters)?;
-    for k in 0..nodes.len() {
-        if is_main_at(bytes, tokens, nodes, &parents, &receivers, k) {
-            return Ok(true);
+    for k in 0..file.len() {
+        if is_main_at(file, k) {
+            return true;
         }
     }
-    Ok(false)
+    false
 }
 
 // The file of this number has a function `main`.
-fn file_has_main(
-    alloc: Global,
-    sources: &Sources,
-    lexed: &[Lexed],
-    trees: &[Tree],
-    file: u32,
-) -> Result<bool, Memory>
-    requires { (tree : Tree) → slice_get trees.now file ≡ Some tree → (spelled : List Token) × SpellsTree tree spelled }
-    ensures { IfOk result (λ b. b ≡ true ↔ HasMainNode (read_of (handed sources.now lexed.now trees.now) file)) }
+fn file_has_main(alloc: Global, files: &Files, file: u32) -> Result<bool, Memory>
+    requires { (tree : Tree) → slice_get files.now.trees.now file ≡ Some tree
+        → (spelled : List Token) × SpellsTree tree spelled }
+    ensures { IfOk result (λ b. b ≡ true ↔ HasMainNode (read_of (files_in files.now) file)) }
 {
-    match trees.get(file as usize) {
-        Some(tree) => has_main_node(alloc, bytes_at(sources, file), tokens_at(lexed, file), tree),
+    match files.trees.get(file as usize) {
+        Some(tree) => {
+            let file = File::new(
+                alloc,
+                bytes_at(files.sources, file),
+                tokens_at(files.lexed, file),
+                tree,
+            )?;
+            Ok(has_main_node(&file))
+        }
         None => Ok(false),
     }
 }
@@ -64,22 +64,16 @@ fn is_led_by(survey: &Survey, file: u32, first: u32) -> bool
 }
 
 // A file of the package with this first file has a function `main`.
-fn has_main_file(
-    alloc: Global,
-    survey: &Survey,
-    sources: &Sources,
-    lexed: &[Lexed],
-    trees: &[Tree],
-    first: u32,
-) -> Result<bool, Memory>
-    requires { (file : ℕ) → IsLedBy survey.now file first → (tree : Tree) → slice_get trees.now file ≡ Some tree → (spelled : List Token) × SpellsTree tree spelled }
-    ensures { IfOk result (λ b. b ≡ true ↔ HasMainFile survey.now (handed sources.now lexed.now trees.now) first) }
+fn has_main_file(alloc: Global, survey: &Survey, files: &Files, first: u32) -> Result<bool, Memory>
+    requires { (file : ℕ) → IsLedBy survey.now file first → (tree : Tree)
+        → slice_get files.now.trees.now file ≡ Some tree → (spelled : List Token) × SpellsTree tree spelled }
+    ensures { IfOk result (λ b. b ≡ true ↔ HasMainFile survey.now (files_in files.now) first) }
 {
     let Ok(count) = u32::try_from(survey.leaders.len()) else {
         return Err(Memory);
     };
     for file in 0..count {
-        if is_led_by(survey, file, first) && file_has_main(alloc, sources, lexed, trees, file)? {
+        if is_led_by(survey, file, first) && file_has_main(alloc, files, file)? {
             return Ok(true);
         }
     }
@@ -97,21 +91,16 @@ fn is_main_name(name: Option<&[u8]>) -> bool
 }
 
 /// The main folder is a package `main` with a function `main`.
-pub fn has_main(
-    alloc: Global,
-    survey: &Survey,
-    sources: &Sources,
-    lexed: &[Lexed],
-    trees: &[Tree],
-) -> Result<bool, Memory>
-    requires agrees { Agrees (handed sources.now lexed.now trees.now) }
-    requires survey { (main : List ℕ) × IsSurvey (handed sources.now lexed.now trees.now) main survey.now }
-    ensures { (main : List ℕ) → IsSurvey (handed sources.now lexed.now trees.now) main survey.now → IfOk result (λ b. b ≡ true ↔ HasMain (handed sources.now lexed.now trees.now) main) }
+pub fn has_main(alloc: Global, survey: &Survey, files: &Files) -> Result<bool, Memory>
+    requires agrees { Agrees (files_in files.now) }
+    requires survey { (main : List ℕ) × IsSurvey (files_in files.now) main survey.now }
+    ensures { (main : List ℕ) → IsSurvey (files_in files.now) main survey.now
+        → IfOk result (λ b. b ≡ true ↔ HasMain (files_in files.now) main) }
 {
     match survey.reached.get_index(0).copied() {
         Some(first) => {
-            if is_main_name(clause_name(sources, lexed, trees, first)) {
-                has_main_file(alloc, survey, sources, lexed, trees, first)
+            if is_main_name(clause_name(files, first)) {
+                has_main_file(alloc, survey, files, first)
             } else {
                 Ok(false)
             }

@@ -1,20 +1,11 @@
 // Whether a node declares a function named `main`.
-ghost use Rattle.std.specs.Prelude.{◌≡◌, slice_get};
-ghost use Rattle.argot_names_imports.specs.Reads.{handed};
-ghost use Rattle.argot_names_packages.specs.Mains.{entry_of, is_declared, is_function, is_false, function_below, function_by, function_of, is_main_text, is_main_at};
+ghost use Rattle.std.specs.Prelude.{◌≡◌, ◌↔◌, IsTrue};
+ghost use Rattle.argot_answers.specs.Answers.{Exactly};
+ghost use Rattle.argot_names_rules.specs.PackageScope.{Function, IsTopName};
+ghost use Rattle.argot_names_packages.specs.Mains.{is_declared, is_function, is_main_text, IsMainNode};
 
-use argot_names_imports::{node_at, spelled_at};
-use argot_tree::{NodeKind, Token, TreeNode};
-
-// The node above a node.
-fn parent_at(parents: &[Option<usize>], k: usize) -> Option<usize>
-    ensures { result ≡ entry_of (slice_get parents.now k) }
-{
-    match parents.get(k) {
-        Some(parent) => *parent,
-        None => None,
-    }
-}
+use argot_files::File;
+use argot_tree::NodeKind;
 
 // The node declares a name.
 fn is_declared(kind: NodeKind) -> bool
@@ -30,48 +21,22 @@ fn is_function(kind: NodeKind) -> bool
     matches!(kind, NodeKind::FuncDecl)
 }
 
-// The node has no receiver.
-fn is_unmarked(receivers: &[bool], k: usize) -> bool
-    ensures { result ≡ is_false (slice_get receivers.now k) }
-{
-    match receivers.get(k) {
-        Some(marked) => !*marked,
-        None => false,
-    }
-}
-
-// The token of a name whose node stands below that of a function.
-fn function_below(node: TreeNode, decl: Option<TreeNode>, unmarked: bool) -> Option<u32>
-    ensures { result ≡ function_below node decl unmarked }
-{
-    match decl {
-        Some(decl) => {
-            if is_declared(node.kind) && is_function(decl.kind) && unmarked {
-                Some(node.token)
-            } else {
-                None
-            }
-        }
-        None => None,
-    }
-}
-
 // The token of the name of a function, where the node is one.
-fn function_at(
-    nodes: &[TreeNode],
-    parents: &[Option<usize>],
-    receivers: &[bool],
-    k: usize,
-) -> Option<u32>
-    ensures { result ≡ function_of nodes.now parents.now receivers.now k }
+fn function_at(file: &File, k: usize) -> Option<u32>
+    ensures { Exactly (IsTopName file.now.nodes Function k) result }
 {
-    match node_at(nodes, k) {
-        Some(node) => match parent_at(parents, k) {
-            Some(p) => function_below(node, node_at(nodes, p), is_unmarked(receivers, p)),
-            None => None,
-        },
-        None => None,
+    let node = file.node(k)?;
+    if !is_declared(node.kind) {
+        return None;
     }
+    let decl = file.parent(k)?;
+    if !is_function(file.node(decl)?.kind) {
+        return None;
+    }
+    if file.has_receiver(decl) {
+        return None;
+    }
+    Some(node.token)
 }
 
 /// The bytes are those of `main`. No memory.
@@ -81,20 +46,12 @@ pub fn is_main_text(text: &[u8]) -> bool
     text == "main".as_bytes()
 }
 
-/// The node is the name of a function `main`, by the parents of the nodes and the marks of those with a receiver.
-/// No memory.
-pub fn is_main_at(
-    bytes: &[u8],
-    tokens: &[Token],
-    nodes: &[TreeNode],
-    parents: &[Option<usize>],
-    receivers: &[bool],
-    k: usize,
-) -> bool
-    ensures { result ≡ is_main_at (record { bytes = bytes.now; tokens = tokens.now; nodes = nodes.now }) parents.now receivers.now k }
+/// The node is the name of a function `main`. No memory.
+pub fn is_main_at(file: &File, k: usize) -> bool
+    ensures { IsTrue result ↔ IsMainNode file.now k }
 {
-    match function_at(nodes, parents, receivers, k) {
-        Some(token) => is_main_text(spelled_at(bytes, tokens, token)),
+    match function_at(file, k) {
+        Some(token) => is_main_text(file.text(token)),
         None => false,
     }
 }

@@ -1,28 +1,20 @@
-// A byte of a file, and which of two comes first.
+// Bytes of files, and the least one so far.
 ghost use Rattle.std.specs.Prelude.{◌≡◌, ◌<◌, ◌^◌, ◌-◌, length, slice_get};
 ghost use Rattle.argot_text.specs.Lines.{line_of, column_of};
 ghost use Rattle.argot_names_imports.specs.Reads.{tokens_at};
-ghost use Rattle.argot_names_packages.specs.Spots.{spot_in, before, comes_first, sooner_of};
+ghost use Rattle.argot_names_packages.specs.Spots.{spot_in, comes_first, sooner_of};
 
+use argot_files::{Place, is_before};
 use argot_names_imports::tokens_at;
 use argot_text::{Pos, pos_of};
 use argot_tree::Lexed;
 
-/// A byte of a file.
-#[derive(Clone, Copy, Debug, PartialEq, Eq)]
-pub struct Spot {
-    /// The number of the file.
-    pub file: u32,
-    /// The offset of the byte, counted from 0.
-    pub offset: u32,
-}
-
 /// The first byte of a token; none where there is no such token. No memory.
-pub fn spot_at(lexed: &[Lexed], file: u32, token: u32) -> Option<Spot>
+pub fn spot_at(lexed: &[Lexed], file: u32, token: u32) -> Option<Place>
     ensures { result ≡ spot_in lexed.now file token }
 {
     match tokens_at(lexed, file).get(token as usize) {
-        Some(token) => Some(Spot {
+        Some(token) => Some(Place {
             file,
             offset: token.start,
         }),
@@ -30,15 +22,8 @@ pub fn spot_at(lexed: &[Lexed], file: u32, token: u32) -> Option<Spot>
     }
 }
 
-/// The byte stands before the other: by file, and in a file by offset. No memory.
-pub fn is_before(a: Spot, b: Spot) -> bool
-    ensures { result ≡ before a b }
-{
-    a.file < b.file || a.file == b.file && a.offset < b.offset
-}
-
 /// The byte stands before the least one so far. No memory.
-pub fn is_first(spot: Spot, least: Option<Spot>) -> bool
+pub fn is_first(spot: Place, least: Option<Place>) -> bool
     ensures { result ≡ comes_first spot least }
 {
     match least {
@@ -48,7 +33,7 @@ pub fn is_first(spot: Spot, least: Option<Spot>) -> bool
 }
 
 /// The least one so far, or a new one where that stands before it. No memory.
-pub fn sooner(least: Option<Spot>, new: Option<Spot>) -> Option<Spot>
+pub fn sooner(least: Option<Place>, new: Option<Place>) -> Option<Place>
     ensures { result ≡ sooner_of least new }
 {
     match new {
@@ -64,7 +49,7 @@ pub fn sooner(least: Option<Spot>, new: Option<Spot>) -> Option<Spot>
 }
 
 /// The line and column of a byte of a file, counted from 1. No memory.
-pub fn pos_at(bytes: &[u8], spot: Spot) -> Pos
+pub fn pos_at(bytes: &[u8], spot: Place) -> Pos
     requires { length bytes.now < 2 ^ 32 - 1 }
     ensures file { result.file ≡ spot.file }
     ensures line { result.line ≡ line_of bytes.now spot.offset }

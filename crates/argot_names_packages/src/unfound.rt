@@ -6,8 +6,9 @@ ghost use Rattle.argot_names_imports.specs.Surveyed.{IsSurvey};
 ghost use Rattle.argot_names_packages.specs.Spots.{IsAt, IsLeast};
 ghost use Rattle.argot_names_packages.specs.Missing.{is_nothing, IsMissingAt};
 
-use crate::spot::{Spot, sooner, spot_at};
+use crate::spot::{sooner, spot_at};
 use crate::standing::reached_leader;
+use argot_files::Place;
 use argot_names_imports::{Found, Survey, found_at, import_at};
 use argot_tree::Lexed;
 
@@ -24,7 +25,7 @@ fn is_nothing(found: Found) -> bool
 }
 
 // Where the path of an import stands that finds nothing and is one of a package that is reached.
-fn missing_at(survey: &Survey, lexed: &[Lexed], k: usize) -> Option<Spot>
+fn missing_at(survey: &Survey, lexed: &[Lexed], k: usize) -> Option<Place>
     requires imports { k < length survey.now.imports.items }
     requires founds { k < length survey.now.founds.items }
     ensures { (place : Place) → IsMissingAt survey.now lexed.now k place ↔ IsAt result place }
@@ -40,9 +41,10 @@ fn missing_at(survey: &Survey, lexed: &[Lexed], k: usize) -> Option<Spot>
 }
 
 /// The first path of an import of a package that is reached, which finds no package and isn't left out. No memory.
-pub fn missing(survey: &Survey, lexed: &[Lexed]) -> Option<Spot>
+pub fn missing(survey: &Survey, lexed: &[Lexed]) -> Option<Place>
     requires { length survey.now.founds.items ≡ length survey.now.imports.items }
-    ensures { (h : SourceFiles) (main : List ℕ) → h.lexed ≡ lexed.now → IsSurvey h main survey.now → IsLeast (FindsNone h main) result }
+    ensures { (h : SourceFiles) (main : List ℕ) → h.lexed ≡ lexed.now → IsSurvey h main survey.now
+        → IsLeast (FindsNone h main) result }
 {
     let mut least = None;
     for k in 0..survey.imports.len() {

@@ -5,7 +5,7 @@ use Rattle.std.proofs.lemmas.Bool.{cases_eq}
 use Rattle.std.proofs.lemmas.Option.{slice_get_within}
 use Rattle.argot_names_rules.specs.Lists.{IsOrdered}
 use Rattle.argot_names_blocks.proofs.Finding.{get_some}
-use Rattle.argot_names_blocks.proofs.Listed.{some_is}
+use Rattle.argot_files.proofs.Listed.{some_is}
 
 module _ {A : Type 0} (node : A → ℕ) (xs : List A) (o : IsOrdered (λ (a b : A). node a < node b) xs) where
   by_steps : (d j : ℕ) (a b : A) → slice_get xs j ≡ Some a → slice_get xs (j + 1 + d) ≡ Some b → node a < node b

@@ -4,7 +4,7 @@ use Rattle.std.specs.Prelude.{slice_get}
 use Rattle.std.proofs.lemmas.Bool.{cases_eq}
 use Rattle.argot_tree.specs.declared.token.Token.{Token}
 use Rattle.argot_names_blocks.specs.declared.binding.Binding.{Binding}
-use Rattle.argot_names_blocks.proofs.Listed.{some_is}
+use Rattle.argot_files.proofs.Listed.{some_is}
 use Rattle.argot_names_scopes.specs.Texts.{text_in}
 use Rattle.argot_names_scopes.specs.Tables.{IsNamed, IsFirstNamed}
 

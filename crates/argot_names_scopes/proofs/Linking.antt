@@ -5,7 +5,7 @@ use Rattle.std.proofs.lemmas.Bool.{cases_eq}
 use Rattle.std.proofs.lemmas.Option.{slice_get_within}
 use Rattle.argot_tree.specs.declared.token.Token.{Token}
 use Rattle.argot_names_blocks.specs.declared.binding.Binding.{Binding}
-use Rattle.argot_names_blocks.proofs.Listed.{some_is}
+use Rattle.argot_files.proofs.Listed.{some_is}
 use Rattle.argot_names_blocks.proofs.Growing.{get_left, get_end}
 use Rattle.argot_names_scopes.specs.Texts.{text_in}
 use Rattle.argot_names_scopes.specs.Tables.{Numbers, number_at, IsNewNamed, IsLastNew, AreBefores, AreLinksUpTo}

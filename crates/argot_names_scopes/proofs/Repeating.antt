@@ -5,7 +5,7 @@ use Rattle.std.proofs.lemmas.Bool.{cases_eq}
 use Rattle.std.proofs.lemmas.Bool.Decides.{nat_tests}
 use Rattle.argot_tree.specs.declared.token.Token.{Token}
 use Rattle.argot_names_blocks.specs.declared.binding.Binding.{Binding}
-use Rattle.argot_names_blocks.proofs.Listed.{some_is}
+use Rattle.argot_files.proofs.Listed.{some_is}
 use Rattle.argot_names_scopes.specs.Again.{IsAgainIn, start_of, smaller, sooner_of, IsAgainAt, IsFirstAgain}
 
 smaller_low : (a b : ℕ) → (smaller a b ≤ a) × (smaller a b ≤ b)

@@ -16,8 +16,8 @@ use Rattle.argot_names_rules.specs.Bindings.{BindingKind, HasColon, of_case, of_
 use Rattle.argot_names_rules.proofs.Lying.{Lies}
 use Rattle.argot_names_rules.proofs.LyingTrees.{lies}
 use Rattle.argot_names_rules.proofs.NodeOrder.{all_at, nodes_follow}
-use Rattle.argot_names_blocks.specs.Links.{to_child, to_sibling}
-use Rattle.argot_names_blocks.proofs.Linked.{linked}
+use Rattle.argot_files.specs.Links.{to_child, to_sibling}
+use Rattle.argot_files.proofs.Linked.{linked}
 
 abbrev Up : TreeNode → Type 0
 Up n = n.token ≤ n.last

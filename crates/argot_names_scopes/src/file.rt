@@ -14,6 +14,7 @@ use crate::links::{Links, links_of};
 use crate::meant::local_meant;
 use crate::news::news_of;
 use crate::shapes::shapes_of;
+use argot_files::File;
 use argot_names_blocks::{Binding, Bindings, bindings_of};
 use argot_text::Memory;
 use argot_tree::{Token, Tree};
@@ -49,7 +50,8 @@ pub fn names_of<'a>(
     ensures tree { IfOk result (λ n. n.tree.now ≡ tree.now) }
     ensures names { IfOk result AreNames }
 {
-    let bindings = bindings_of(alloc, tree)?;
+    let file = File::new(alloc, bytes, tokens, tree)?;
+    let bindings = bindings_of(alloc, &file)?;
     let firsts = firsts_of(alloc, bytes, tokens, &bindings.brought)?;
     let news = news_of(alloc, bytes, tokens, &bindings.brought, &firsts)?;
     let links = links_of(alloc, bytes, tokens, &bindings.brought, &news)?;

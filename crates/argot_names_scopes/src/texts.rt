@@ -1,19 +1,9 @@
 // The texts of names.
 ghost use Rattle.std.specs.Prelude.{◌≡◌, ◌↔◌, IsTrue, codes, slice_get};
-ghost use Rattle.std.specs.List.{slice_range};
-ghost use Rattle.argot_names_rules.specs.Files.{spelled};
 ghost use Rattle.argot_names_scopes.specs.Texts.{text_in};
 
+use argot_files::range_of;
 use argot_tree::Token;
-
-// The bytes from one offset to another, as far as there are some.
-fn range_of(bytes: &[u8], start: usize, end: usize) -> &[u8]
-    ensures { result.now ≡ slice_range bytes.now start end }
-{
-    let from = start.min(bytes.len());
-    let to = end.min(bytes.len()).max(from);
-    &bytes[from..to]
-}
 
 /// The bytes of the token of this number; nothing where there is none. No memory.
 pub fn spelled_of<'a>(bytes: &'a [u8], tokens: &[Token], at: usize) -> &'a [u8]

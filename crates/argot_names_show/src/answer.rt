@@ -49,9 +49,10 @@ fn push_fault(
 // What is printed of files that are read.
 fn push_loaded(alloc: Global, out: &mut Out, folder: &Folder, asked: Asked) -> Result<(), Memory>
     requires agrees { Agrees (handed folder.now.sources folder.now.lexed.items folder.now.trees.items) }
-    requires library { (main : List ℕ) → HasLibrary (handed folder.now.sources folder.now.lexed.items folder.now.trees.items) main }
+    requires library { (main : List ℕ)
+        → HasLibrary (handed folder.now.sources folder.now.lexed.items folder.now.trees.items) main }
 {
-    match load(alloc, &folder.sources, &folder.lexed, &folder.trees, "") {
+    match load(alloc, &folder.files(), "") {
         Ok(packages) => match asked {
             Asked::Count => push_counts(out, &packages),
             _ => push_lines(out, folder, &packages),

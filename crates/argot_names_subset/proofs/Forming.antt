@@ -13,8 +13,8 @@ use Rattle.argot_names_rules.specs.Agreeing.{is_numbered, is_module_file, is_kep
 use Rattle.argot_names_rules.specs.Loaded.{count_nodes, IsLoaded}
 use Rattle.argot_names_imports.proofs.Lists.{get_two, get_map, get_below, get_there}
 use Rattle.argot_names_imports.proofs.FirstFiles.{same_text}
-use Rattle.argot_names_blocks.specs.Forms.{IsFormed}
-use Rattle.argot_names_blocks.proofs.Forming.{formed}
+use Rattle.argot_files.specs.Forms.{IsFormed}
+use Rattle.argot_files.proofs.Forming.{formed}
 use Rattle.argot_names_subset_file.proofs.Counting.{count_below}
 use Rattle.argot_names_subset.specs.Known.{AreFormed}
 use Rattle.argot_names_subset.proofs.NodesThere.{stands_there}

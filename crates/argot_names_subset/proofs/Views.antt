@@ -21,35 +21,35 @@ use Rattle.argot_names_subset_file.specs.Atoms.IsAtom.{name as atom_name, member
 use Rattle.argot_names_subset_file.specs.Atoms.IsBeforeDot.{direct, wrapped as before_wrapped}
 use Rattle.argot_names_subset_file.specs.Parts.{BeginsIn, IsBodiless}
 use Rattle.argot_names_subset_file.specs.Parts.IsPlain.{type_parameters as plain_parameters, goto_ as plain_goto}
-use Rattle.argot_names_subset_file.specs.Files.{read_in, IsPart, IsInFile}
+use Rattle.argot_names_subset_file.specs.Files.{IsPart, IsInFile}
 use Rattle.argot_names_subset_file.specs.Files.IsPart.{dot as part_dot, plain, number, named, method, bodiless}
 use Rattle.argot_names_subset_file.specs.Files.IsInFile.{import_ as in_import, directive as in_directive, node as in_node}
 use Rattle.argot_names_subset.specs.Inside.{IsInside, import_, dot, directive, type_parameters, literal, predeclared, goto_, method_expression, without_body}
 use Rattle.argot_names_subset.specs.Meanings.{AreMeant, IsPathOf}
 
 module _ (h : SourceFiles) (entries : List Entry) (home : PackageKey) (file : ℕ) (view : View) (directives : List ℕ)
-    (file_is : view.file ≡ file) (read_is : read_in view ≡ read_of h file) (directives_are : directives ≡ directives_of h file) (entries_are : view.entries.now ≡ entries)
+    (file_is : view.number ≡ file) (read_is : view.file.now ≡ read_of h file) (directives_are : directives ≡ directives_of h file) (entries_are : view.entries.now ≡ entries)
     (meant : AreMeant h home file view.named.now view.typed.now) (path_is : IsPathOf h home (option_map (λ p. p.now) view.path)) where
-  tokens_are : view.tokens.now ≡ (read_of h file).tokens
+  tokens_are : view.file.now.tokens ≡ (read_of h file).tokens
   tokens_are = ap (λ (f : SourceFile). f.tokens) read_is
 
-  bytes_are : view.bytes.now ≡ bytes_of h file
+  bytes_are : view.file.now.bytes ≡ bytes_of h file
   bytes_are = ap (λ (f : SourceFile). f.bytes) read_is
 
-  nodes_are : view.nodes.now ≡ (read_of h file).nodes
+  nodes_are : view.file.now.nodes ≡ (read_of h file).nodes
   nodes_are = ap (λ (f : SourceFile). f.nodes) read_is
 
   -- a claim on the nodes, both ways
-  to_tree : (P : List TreeNode → Type 0) → P view.nodes.now → P (read_of h file).nodes
+  to_tree : (P : List TreeNode → Type 0) → P view.file.now.nodes → P (read_of h file).nodes
   to_tree P x = subst P nodes_are x
 
-  to_view : (P : List TreeNode → Type 0) → P (read_of h file).nodes → P view.nodes.now
+  to_view : (P : List TreeNode → Type 0) → P (read_of h file).nodes → P view.file.now.nodes
   to_view P x = subst P (sym nodes_are) x
 
-  begins_to : (token : ℕ) (place : Place) → BeginsIn view.tokens.now view.file token place → Begins h file token place
+  begins_to : (token : ℕ) (place : Place) → BeginsIn view.file.now.tokens view.number token place → Begins h file token place
   begins_to token place b = record { is = b.is; there = sym (ap (λ ts. slice_get ts token) tokens_are) ∙ b.there; in_file = b.in_file ∙ file_is; at = b.at }
 
-  begins_from : (token : ℕ) (place : Place) → Begins h file token place → BeginsIn view.tokens.now view.file token place
+  begins_from : (token : ℕ) (place : Place) → Begins h file token place → BeginsIn view.file.now.tokens view.number token place
   begins_from token place b = record { is = b.is; there = ap (λ ts. slice_get ts token) tokens_are ∙ b.there; in_file = b.in_file ∙ sym file_is; at = b.at }
 
   -- expressions that denote types
@@ -59,10 +59,10 @@ module _ (h : SourceFiles) (entries : List Entry) (home : PackageKey) (file : �
   record HasAtom (selector : ℕ) : Type 0 where
     pub node : ℕ
     pub atom : ℕ
-    pub is : IsAtom view.nodes.now view.typed.now node atom
-    pub before : IsBeforeDot view.nodes.now atom selector
+    pub is : IsAtom view.file.now.nodes view.typed.now node atom
+    pub before : IsBeforeDot view.file.now.nodes atom selector
 
-  atom_of : (node selector : ℕ) → DenotesType h home file node → IsBeforeDot view.nodes.now node selector → HasAtom selector
+  atom_of : (node selector : ℕ) → DenotesType h home file node → IsBeforeDot view.file.now.nodes node selector → HasAtom selector
   atom_of node selector (denotes_name {meant = m} is stands declares) b =
       record { node = node; atom = node; is = atom_name (to_view (λ t. Is t node nodes.NameUse) is) ((meant.typed node).1 (record { meant = m; stands = stands; declares = declares })); before = b }
   atom_of node selector (denotes_member {node = inner} {meant = m} whole under is stands declares) b =
@@ -76,7 +76,7 @@ module _ (h : SourceFiles) (entries : List Entry) (home : PackageKey) (file : �
       atom_of inner selector denotes (before_wrapped (to_view (λ t. IsOf t node wraps_type at last) is) (to_view (λ t. IsFirstChild t node inner) first) b)
   atom_of node selector (denotes_form {at = at} {last = last} is) b = record { node = node; atom = node; is = atom_form (to_view (λ t. IsOf t node is_type_form at last) is); before = b }
 
-  atom_denotes : (node atom : ℕ) → IsAtom view.nodes.now view.typed.now node atom → DenotesType h home file atom
+  atom_denotes : (node atom : ℕ) → IsAtom view.file.now.nodes view.typed.now node atom → DenotesType h home file atom
   atom_denotes node _ (atom_name is typed) = let t = (meant.typed node).0 typed in denotes_name (to_tree (λ t. Is t node nodes.NameUse) is) t.stands t.declares
   atom_denotes node atom (atom_member whole under is typed) =
       let t = (meant.typed node).0 typed in
@@ -88,13 +88,13 @@ module _ (h : SourceFiles) (entries : List Entry) (home : PackageKey) (file : �
     pub first : IsFirstChild (read_of h file).nodes selector operand
     pub denotes : DenotesType h home file operand
 
-  operand_of : (node selector : ℕ) → IsBeforeDot view.nodes.now node selector → DenotesType h home file node → HasOperand selector
+  operand_of : (node selector : ℕ) → IsBeforeDot view.file.now.nodes node selector → DenotesType h home file node → HasOperand selector
   operand_of node selector (direct is first) d = record { operand = node; first = to_tree (λ t. IsFirstChild t selector node) first; denotes = d }
   operand_of node selector (before_wrapped {around = around} {at = at} {last = last} is first more) d =
       operand_of around selector more (denotes_wrapped (to_tree (λ t. IsOf t around wraps_type at last) is) (to_tree (λ t. IsFirstChild t around node) first) d)
 
   -- what is left out at a node
-  part_inside : (node token : ℕ) (feature : Feature) (place : Place) → IsPart view node (record { feature = feature; token = token }) → BeginsIn view.tokens.now view.file token place → IsInside h entries home file feature place
+  part_inside : (node token : ℕ) (feature : Feature) (place : Place) → IsPart view node (record { feature = feature; token = token }) → BeginsIn view.file.now.tokens view.number token place → IsInside h entries home file feature place
   part_inside node token feature place (part_dot d) b =
       subst (λ f. IsInside h entries home file f place) (sym d.feature_is) (dot (to_tree (λ t. IsImport t node token d.path_at Dotted) d.is) (begins_to token place b))
   part_inside node token _ place (plain (plain_parameters {last = last} s)) b = type_parameters (to_tree (λ t. Spans t node nodes.TypeParams token last) s) (begins_to token place b)

@@ -38,7 +38,8 @@ fn put<'a>(
     folder: &'a [u8],
     k: usize,
 ) -> Result<(), Memory>
-    ensures { OnOk result ((q : List ℕ) → found_at folders.new q ≡ cond (pointwise nat_eq folder.now q) (Some k) (found_at folders.old q)) }
+    ensures { OnOk result ((q : List ℕ) → found_at folders.new q ≡ cond (pointwise nat_eq folder.now q)
+        (Some k) (found_at folders.old q)) }
 {
     folders.insert(folder, k)?;
     Ok(())
@@ -65,7 +66,8 @@ fn put_package<'a>(
     package: &Package,
     k: usize,
 ) -> Result<(), Memory>
-    ensures { OnOk result ((q : List ℕ) → HasFolder folders.new q ↔ (HasFolder folders.old q ⊎ IsFolderAt sources.now «package».now q)) }
+    ensures { OnOk result ((q : List ℕ) → HasFolder folders.new q ↔
+        (HasFolder folders.old q ⊎ IsFolderAt sources.now «package».now q)) }
 {
     match first_path(sources, package) {
         Some(path) => put_folder(folders, path, k),

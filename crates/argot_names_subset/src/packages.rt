@@ -10,6 +10,7 @@ ghost use Rattle.argot_names_subset_file.specs.Spots.{Adds};
 ghost use Rattle.argot_names_subset.specs.Inside.{IsInPackage, IsAmongKeys};
 ghost use Rattle.argot_names_subset.specs.Meanings.{AreTables, IsPathOf, ArePackageKeys};
 ghost use Rattle.argot_names_subset.specs.Known.{handed_of, IsKnown};
+ghost use Rattle.argot_names_subset.specs.Files.{AddsPackage};
 
 use crate::file::note_source;
 use crate::known::Known;
@@ -38,7 +39,8 @@ fn is_go(sources: &Sources, file: u32) -> bool
 
 /// The import path of the file's package, where that is a folder.
 fn path_of<'a>(sources: &Sources, package: &'a Package, file: u32) -> Option<&'a [u8]>
-    ensures { (path : List ℕ) → slice_get sources.now.paths file ≡ Some path → option_map (λ p. p.now) result ≡ (if is_go_file path then Some «package».now.path else None) }
+    ensures { (path : List ℕ) → slice_get sources.now.paths file ≡ Some path
+        → option_map (λ p. p.now) result ≡ (if is_go_file path then Some «package».now.path else None) }
 {
     if is_go(sources, file) {
         Some(package.path.as_str().as_bytes())
@@ -63,12 +65,12 @@ fn note_package<'a, 'e>(
     package: &'a Package,
 ) -> Result<(), Memory>
     requires { IsKnown known.now }
-    ensures { (homes : List PackageKey) (home : PackageKey) → AreTables (handed_of known.now) homes known.now.named.now known.now.typed.now → In home homes → IsProper home → IsPackage (handed_of known.now) home «package».now → OnOk result (Adds (IsInPackage (handed_of known.now) known.now.entries.now home) spots.old.keys spots.new.keys) }
+    ensures { OnOk result (AddsPackage known.now «package».now spots.old.keys spots.new.keys) }
 {
     let files = package.files.as_slice();
     for k in 0..files.len() {
         let file = file_at(files, k);
-        let path = path_of(known.sources, package, file);
+        let path = path_of(known.files.sources, package, file);
         note_source(alloc, spots, known, file, path)?;
     }
     Ok(())
@@ -90,7 +92,10 @@ pub fn note_packages<'a, 'e>(
     packages: &'a [Package],
 ) -> Result<(), Memory>
     requires { IsKnown known.now }
-    ensures { (homes : List PackageKey) → AreTables (handed_of known.now) homes known.now.named.now known.now.typed.now → ArePackageKeys (handed_of known.now) homes packages.now → OnOk result (Adds (IsAmongKeys (handed_of known.now) known.now.entries.now homes) spots.old.keys spots.new.keys) }
+    ensures { (homes : List PackageKey)
+        → AreTables (handed_of known.now) homes known.now.named.now known.now.typed.now
+        → ArePackageKeys (handed_of known.now) homes packages.now
+        → OnOk result (Adds (IsAmongKeys (handed_of known.now) known.now.entries.now homes) spots.old.keys spots.new.keys) }
 {
     for k in 0..packages.len() {
         note_package(alloc, spots, known, package_at(packages, k))?;

@@ -11,11 +11,11 @@ use Rattle.argot_names_imports.specs.declared.written.Written.{Written}
 use Rattle.argot_names_imports.specs.Written.{IsWritten}
 use Rattle.argot_names_subset_file.specs.declared.spots.Spot.{Spot}
 use Rattle.argot_names_subset_file.specs.declared.view.View.{View}
-use Rattle.argot_names_subset_file.specs.Exact.{IsExact}
+use Rattle.argot_answers.specs.Answers.{Exactly}
 use Rattle.argot_names_subset_file.specs.Spots.{Adds}
 use Rattle.argot_names_subset_file.specs.Parts.{BeginsIn}
-use Rattle.argot_names_subset_file.specs.Files.{read_in, IsAt, IsImportOut, IsImportSome, IsDirected, IsDirectedSome}
-use Rattle.argot_names_subset_file.proofs.Exactly.{exact_none, exact_some, exact_one, exact_holds, exact_not}
+use Rattle.argot_names_subset_file.specs.Files.{IsAt, IsImportOut, IsImportSome, IsDirected, IsDirectedSome}
+use Rattle.argot_answers.proofs.Exactly.{exact_none, exact_some, exact_one, exact_holds, exact_not}
 use Rattle.argot_names_subset_file.proofs.Adding.{Claim, UpTo, adds_as, adds_both, adds_all}
 use Rattle.argot_names_subset_file.proofs.PartLemmas.{part_is, some_is}
 
@@ -34,19 +34,19 @@ out_one path f g a b = go path path f g refl a b
     go _ _ _ _ e foreign reflect = absurd (cc)
     go _ _ _ _ e foreign foreign = refl
 
-pub out_some : (path : List ℕ) (f : Feature) → LeavesOut path f → IsExact (LeavesOut path) (Some f)
+pub out_some : (path : List ℕ) (f : Feature) → LeavesOut path f → Exactly (LeavesOut path) (Some f)
 out_some path f h = exact_some (LeavesOut path) f h (λ g k. out_one path g f k h)
 
-pub out_unsafe : (path : List ℕ) → path ≡ codes "unsafe" → IsExact (LeavesOut path) (Some features.ImportUnsafe)
+pub out_unsafe : (path : List ℕ) → path ≡ codes "unsafe" → Exactly (LeavesOut path) (Some features.ImportUnsafe)
 out_unsafe path e = out_some path features.ImportUnsafe (subst (λ p. LeavesOut p features.ImportUnsafe) (sym e) unsafe_)
 
-pub out_reflect : (path : List ℕ) → path ≡ codes "reflect" → IsExact (LeavesOut path) (Some features.ImportReflect)
+pub out_reflect : (path : List ℕ) → path ≡ codes "reflect" → Exactly (LeavesOut path) (Some features.ImportReflect)
 out_reflect path e = out_some path features.ImportReflect (subst (λ p. LeavesOut p features.ImportReflect) (sym e) reflect)
 
-pub out_foreign : (path : List ℕ) → path ≡ codes "C" → IsExact (LeavesOut path) (Some features.ImportC)
+pub out_foreign : (path : List ℕ) → path ≡ codes "C" → Exactly (LeavesOut path) (Some features.ImportC)
 out_foreign path e = out_some path features.ImportC (subst (λ p. LeavesOut p features.ImportC) (sym e) foreign)
 
-pub out_none : (path : List ℕ) → path ≢ codes "unsafe" → path ≢ codes "reflect" → path ≢ codes "C" → IsExact (LeavesOut path) None
+pub out_none : (path : List ℕ) → path ≢ codes "unsafe" → path ≢ codes "reflect" → path ≢ codes "C" → Exactly (LeavesOut path) None
 out_none path a b d = exact_none (LeavesOut path) (λ f h. go path f h a b d)
   where
     go : (p : List ℕ) (f : Feature) → LeavesOut p f → p ≢ codes "unsafe" → p ≢ codes "reflect" → p ≢ codes "C" → ⊥
@@ -54,25 +54,25 @@ out_none path a b d = exact_none (LeavesOut path) (λ f h. go path f h a b d)
     go _ _ reflect a b d = b refl
     go _ _ foreign a b d = d refl
 
-pub import_some : (path : List ℕ) (path_at : ℕ) (f : Feature) → IsExact (LeavesOut path) (Some f) → IsExact (IsImportOut path path_at) (Some (record { feature = f; token = path_at }))
+pub import_some : (path : List ℕ) (path_at : ℕ) (f : Feature) → Exactly (LeavesOut path) (Some f) → Exactly (IsImportOut path path_at) (Some (record { feature = f; token = path_at }))
 import_some path path_at f is =
     exact_some (IsImportOut path path_at) (record { feature = f; token = path_at }) (record { leaves = exact_holds (LeavesOut path) f is; token_is = refl })
     (λ x h. part_is x.feature f x.token path_at (exact_one (LeavesOut path) f is x.feature h.leaves) h.token_is)
 
-pub import_none : (path : List ℕ) (path_at : ℕ) → IsExact (LeavesOut path) None → IsExact (IsImportOut path path_at) None
+pub import_none : (path : List ℕ) (path_at : ℕ) → Exactly (LeavesOut path) None → Exactly (IsImportOut path path_at) None
 import_none path path_at is = exact_none (IsImportOut path path_at) (λ x h. exact_not (LeavesOut path) is x.feature h.leaves)
 
 -- the imports of a file
 module _ (view : View) (ws : List Written) where
   abbrev pub ImportItem : ℕ → Claim
-  ImportItem j f p = (w : Written) × (slice_get ws j ≡ Some w) × IsAt view.tokens.now view.file (IsImportOut w.path w.path_at) f p
+  ImportItem j f p = (w : Written) × (slice_get ws j ≡ Some w) × IsAt view.file.now.tokens view.number (IsImportOut w.path w.path_at) f p
 
-  pub import_item : (k : ℕ) (w : Written) (old new : List Spot) → slice_get ws k ≡ Some w → Adds (IsAt view.tokens.now view.file (IsImportOut w.path w.path_at)) old new → Adds (ImportItem k) old new
+  pub import_item : (k : ℕ) (w : Written) (old new : List Spot) → slice_get ws k ≡ Some w → Adds (IsAt view.file.now.tokens view.number (IsImportOut w.path w.path_at)) old new → Adds (ImportItem k) old new
   import_item k w old new there a =
-      adds_as (IsAt view.tokens.now view.file (IsImportOut w.path w.path_at)) (ImportItem k) old new (λ f p h. (w, there, h))
-      (λ f p h. subst (λ (v : Written). IsAt view.tokens.now view.file (IsImportOut v.path v.path_at) f p) (some_is h.0 w (sym h.1 ∙ there)) h.2) a
+      adds_as (IsAt view.file.now.tokens view.number (IsImportOut w.path w.path_at)) (ImportItem k) old new (λ f p h. (w, there, h))
+      (λ f p h. subst (λ (v : Written). IsAt view.file.now.tokens view.number (IsImportOut v.path v.path_at) f p) (some_is h.0 w (sym h.1 ∙ there)) h.2) a
 
-  pub imports_all : (k : ℕ) (old new : List Spot) → length ws ≤ k → IsListOf (λ (a b : Written). a.node < b.node) (λ w. (w.file ≡ view.file) × IsWritten (read_in view) w) ws → Adds (UpTo ImportItem k) old new → Adds (IsImportSome view) old new
+  pub imports_all : (k : ℕ) (old new : List Spot) → length ws ≤ k → IsListOf (λ (a b : Written). a.node < b.node) (λ w. (w.file ≡ view.number) × IsWritten view.file.now w) ws → Adds (UpTo ImportItem k) old new → Adds (IsImportSome view) old new
   imports_all k old new long are a =
       adds_as (λ f p. (j : ℕ) × ImportItem j f p) (IsImportSome view) old new
       (λ f p h.
@@ -86,10 +86,10 @@ module _ (view : View) (ws : List Written) where
         path = w.path;
         imports = (are.sound w (h.0, h.1.1)).1;
         leaves = at.holds.leaves;
-        begins = subst (λ t. BeginsIn view.tokens.now view.file t p) at.holds.token_is at.begins;
+        begins = subst (λ t. BeginsIn view.file.now.tokens view.number t p) at.holds.token_is at.begins;
       })
       (λ f p h.
-      let w : Written = record { file = view.file; node = h.node; at = h.at; path_at = h.path_at; alias = h.alias; path = h.path } in
+      let w : Written = record { file = view.number; node = h.node; at = h.at; path_at = h.path_at; alias = h.alias; path = h.path } in
       let i = are.complete w (refl, h.imports) in
       (i.0, (w, i.1, record { token = h.path_at; holds = record { leaves = h.leaves; token_is = refl }; begins = h.begins })))
       (adds_all ImportItem k old new (λ j f p h. omega (arith, long, get_below ws j h.0 h.1)) a)

@@ -10,12 +10,13 @@ use Rattle.argot_names_rules.specs.Bindings.{specifies_type}
 use Rattle.argot_names_rules.specs.Loaded.{count_nodes}
 use Rattle.argot_names_imports.proofs.Lists.{get_below, get_two, get_behind, get_before, get_last, get_either}
 use Rattle.argot_names_blocks.proofs.Generic.{lies_or}
+use Rattle.argot_files.proofs.Nodes.{child_there}
 use Rattle.argot_names_blocks.specs.declared.tables.Found.{Found}
-use Rattle.argot_names_blocks.specs.Parents.{AreParents}
-use Rattle.argot_names_subset_file.specs.Exact.{IsExact}
+use Rattle.argot_files.specs.Parents.{AreParents}
+use Rattle.argot_answers.specs.Answers.{Exactly}
 use Rattle.argot_names_subset_file.specs.Atoms.{IsAbove}
-use Rattle.argot_names_subset_file.proofs.Exactly.{exact_one, exact_holds, exact_not}
-use Rattle.argot_names_subset_file.proofs.NameLemmas.{of_there, of_kind, is_there, child_there}
+use Rattle.argot_answers.proofs.Exactly.{exact_one, exact_holds, exact_not}
+use Rattle.argot_names_subset_file.proofs.NameLemmas.{of_there, of_kind, is_there}
 use Rattle.argot_names_subset_file.specs.Tables.{IsTypeDeclared, AreTypesUpTo, AreTypesBefore}
 use Rattle.argot_names_subset_file.proofs.PartLemmas.{some_is}
 
@@ -155,16 +156,16 @@ bases_more trees file count more tree old new are there e m =
     }
 
 -- the name of a type by the node above it
-pub declared_above : (tree : List TreeNode) (ps : List (Option ℕ)) (are : AreParents tree ps) (k : ℕ) (n : TreeNode) (a : Found) (b : Bool) → slice_get tree k ≡ Some n → n.kind ≡ nodes.DeclName → IsExact (IsAbove tree k) (Some a) → b ≡ specifies_type a.node.kind
+pub declared_above : (tree : List TreeNode) (ps : List (Option ℕ)) (are : AreParents tree ps) (k : ℕ) (n : TreeNode) (a : Found) (b : Bool) → slice_get tree k ≡ Some n → n.kind ≡ nodes.DeclName → Exactly (IsAbove tree k) (Some a) → b ≡ specifies_type a.node.kind
     → IsTrue b ↔ IsTypeDeclared tree k
 declared_above tree ps are k n a b there e is s =
     let h = exact_holds (IsAbove tree k) a is in (
       λ yes. record { spec = a.at; at = a.node.token; last = a.node.last; is_spec = of_there tree a.at a.node specifies_type h.there (sym s ∙ yes); under = h.under; is_name = is_there tree k n nodes.DeclName there e },
       λ d.
-          let f = child_there tree ps are k d.spec d.under in
+          let f = child_there tree k d.spec d.under in
           let same = exact_one (IsAbove tree k) a is (record { at = d.spec; node = f.0 }) (record { under = d.under; there = f.1 }) in
           s ∙ of_kind tree a.at a.node specifies_type d.at d.last h.there (subst (λ (x : Found). IsOf tree x.at specifies_type d.at d.last) same d.is_spec),
     )
 
-pub undeclared : (tree : List TreeNode) (ps : List (Option ℕ)) (are : AreParents tree ps) (k : ℕ) → IsExact (IsAbove tree k) None → IsTrue false ↔ IsTypeDeclared tree k
-undeclared tree ps are k is = (λ no_way. absurd (cc), λ d. let f = child_there tree ps are k d.spec d.under in absurd (exact_not (IsAbove tree k) is (record { at = d.spec; node = f.0 }) (record { under = d.under; there = f.1 })))
+pub undeclared : (tree : List TreeNode) (ps : List (Option ℕ)) (are : AreParents tree ps) (k : ℕ) → Exactly (IsAbove tree k) None → IsTrue false ↔ IsTypeDeclared tree k
+undeclared tree ps are k is = (λ no_way. absurd (cc), λ d. let f = child_there tree k d.spec d.under in absurd (exact_not (IsAbove tree k) is (record { at = d.spec; node = f.0 }) (record { under = d.under; there = f.1 })))

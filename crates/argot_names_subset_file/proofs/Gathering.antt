@@ -8,7 +8,7 @@ use Rattle.argot_names_rules.specs.Lists
 use Rattle.argot_names_imports.proofs.Lists.{get_below, nothing_in}
 use Rattle.argot_names_rules.specs.Files.{Place}
 use Rattle.argot_names_rules.specs.declared.flag.Feature.{Feature}
-use Rattle.argot_names_blocks.proofs.Listed.{some_is, get_is}
+use Rattle.argot_files.proofs.Listed.{some_is, get_is}
 use Rattle.argot_names_subset_file.specs.declared.spots.Spot.{Spot}
 use Rattle.argot_names_subset_file.specs.declared.view.View.{View}
 use Rattle.argot_names_subset_file.specs.Spots.{IsSpotted, Adds, IsSpotBefore}
@@ -16,14 +16,14 @@ use Rattle.argot_names_subset_file.specs.Files.{IsInFile, import_, directive, no
 use Rattle.argot_names_subset_file.proofs.Order.{compare, ascends}
 use Rattle.argot_names_subset_file.proofs.Adding.{Claim, adds_as, adds_both}
 
-pub in_file : (view : View) (directives : List ℕ) (a b c d : List Spot) → Adds (IsImportSome view) a b → Adds (IsDirectedSome view.bytes.now view.file directives) b c → Adds (IsAtSome view) c d → Adds (IsInFile view directives) a d
+pub in_file : (view : View) (directives : List ℕ) (a b c d : List Spot) → Adds (IsImportSome view) a b → Adds (IsDirectedSome view.file.now.bytes view.number directives) b c → Adds (IsAtSome view) c d → Adds (IsInFile view directives) a d
 in_file view directives a b c d one two three =
     adds_as _ (IsInFile view directives) a d
     (λ f p h. elim h [ inl x ↦ elim x [ inl y ↦ import_ y | inr y ↦ directive y ] | inr x ↦ node x ])
     (λ f p h. split f p h)
     (adds_both _ _ a c d (adds_both _ _ a b c one two) three)
   where
-    split : (f : Feature) (p : Place) → IsInFile view directives f p → (IsImportSome view f p ⊎ IsDirectedSome view.bytes.now view.file directives f p) ⊎ IsAtSome view f p
+    split : (f : Feature) (p : Place) → IsInFile view directives f p → (IsImportSome view f p ⊎ IsDirectedSome view.file.now.bytes view.number directives f p) ⊎ IsAtSome view f p
     split f p (import_ h) = inl (inl h)
     split f p (directive h) = inl (inr h)
     split f p (node h) = inr h

@@ -1,7 +1,7 @@
 pub mod Keys
 pub mod Order
 pub mod Adding
-pub mod Exactly
+pub mod Outcomes
 pub mod PartLemmas
 pub mod NameLemmas
 pub mod ReceiverLemmas

@@ -10,11 +10,11 @@ use Rattle.argot_names_imports.proofs.Lists.{get_below}
 use Rattle.argot_names_subset_file.specs.declared.parts.Part.{Part}
 use Rattle.argot_names_subset_file.specs.declared.spots.Spot.{Spot}
 use Rattle.argot_names_subset_file.specs.declared.view.View.{View}
-use Rattle.argot_names_subset_file.specs.Exact.{IsExact}
+use Rattle.argot_answers.specs.Answers.{Exactly}
 use Rattle.argot_names_subset_file.specs.Spots.{Adds}
 use Rattle.argot_names_subset_file.specs.Atoms.{IsAtom, name, member, form}
 use Rattle.argot_names_subset_file.specs.Parts.{BeginsIn, IsDot, IsPlain, type_parameters, goto_, IsNumber, IsNamed, IsMethod, IsBodiless}
-use Rattle.argot_names_subset_file.specs.Files.{read_in, IsBodilessIn, IsPart, dot, plain, number, named, method, bodiless, IsAt, IsAtSome}
+use Rattle.argot_names_subset_file.specs.Files.{IsBodilessIn, IsPart, dot, plain, number, named, method, bodiless, IsAt, IsAtSome}
 use Rattle.argot_names_subset_file.proofs.Adding.{Claim, UpTo, adds_as, adds_none, adds_both, adds_all}
 use Rattle.argot_names_subset_file.proofs.PartLemmas.{some_is}
 
@@ -51,7 +51,7 @@ module _ (tokens : List Token) (file : ℕ) where
       place_is a b c d p q = λ i. record { file = p i; offset = q i }
 
   -- what is added is what the answer is exactly given for
-  pub exactly : (Holds : Part → Type 0) (part : Option Part) (old new : List Spot) → IsExact Holds part → Adds (IsAt tokens file (λ x. part ≡ Some x)) old new → Adds (IsAt tokens file Holds) old new
+  pub exactly : (Holds : Part → Type 0) (part : Option Part) (old new : List Spot) → Exactly Holds part → Adds (IsAt tokens file (λ x. part ≡ Some x)) old new → Adds (IsAt tokens file Holds) old new
   exactly Holds part old new is a =
       adds_as (IsAt tokens file (λ x. part ≡ Some x)) (IsAt tokens file Holds) old new
       (λ f p h. record { token = h.token; holds = is.sound (record { feature = f; token = h.token }) h.holds; begins = h.begins })
@@ -64,10 +64,10 @@ module _ (tokens : List Token) (file : ℕ) where
 -- the six at one node
 module _ (view : View) (k : ℕ) where
   abbrev At : (Part → Type 0) → Claim
-  At = IsAt view.tokens.now view.file
+  At = IsAt view.file.now.tokens view.number
 
-  pub six : (a b c d e f g : List Spot) → Adds (At (IsDot view.nodes.now k)) a b → Adds (At (IsPlain view.nodes.now k)) b c → Adds (At (IsNumber view.tokens.now view.nodes.now k)) c d
-      → Adds (At (IsNamed view.nodes.now view.named.now k)) d e → Adds (At (IsMethod view.nodes.now view.typed.now k)) e f → Adds (At (IsBodilessIn view k)) f g → Adds (At (IsPart view k)) a g
+  pub six : (a b c d e f g : List Spot) → Adds (At (IsDot view.file.now.nodes k)) a b → Adds (At (IsPlain view.file.now.nodes k)) b c → Adds (At (IsNumber view.file.now.tokens view.file.now.nodes k)) c d
+      → Adds (At (IsNamed view.file.now.nodes view.named.now k)) d e → Adds (At (IsMethod view.file.now.nodes view.typed.now k)) e f → Adds (At (IsBodilessIn view k)) f g → Adds (At (IsPart view k)) a g
   six a b c d e f g one two three four five six_ =
       adds_as _ (At (IsPart view k)) a g
       (λ x p h. elim h [
@@ -75,55 +75,55 @@ module _ (view : View) (k : ℕ) where
           | inl h ↦ elim h [
             | inl h ↦ elim h [
               | inl h ↦ elim h [
-                | inl h ↦ at_as view.tokens.now view.file (IsDot view.nodes.now k) (IsPart view k) x p (λ y z. dot z) h
-                | inr h ↦ at_as view.tokens.now view.file (IsPlain view.nodes.now k) (IsPart view k) x p (λ y z. plain z) h
+                | inl h ↦ at_as view.file.now.tokens view.number (IsDot view.file.now.nodes k) (IsPart view k) x p (λ y z. dot z) h
+                | inr h ↦ at_as view.file.now.tokens view.number (IsPlain view.file.now.nodes k) (IsPart view k) x p (λ y z. plain z) h
               ]
-              | inr h ↦ at_as view.tokens.now view.file (IsNumber view.tokens.now view.nodes.now k) (IsPart view k) x p (λ y z. number z) h
+              | inr h ↦ at_as view.file.now.tokens view.number (IsNumber view.file.now.tokens view.file.now.nodes k) (IsPart view k) x p (λ y z. number z) h
             ]
-            | inr h ↦ at_as view.tokens.now view.file (IsNamed view.nodes.now view.named.now k) (IsPart view k) x p (λ y z. named z) h
+            | inr h ↦ at_as view.file.now.tokens view.number (IsNamed view.file.now.nodes view.named.now k) (IsPart view k) x p (λ y z. named z) h
           ]
-          | inr h ↦ at_as view.tokens.now view.file (IsMethod view.nodes.now view.typed.now k) (IsPart view k) x p (λ y z. method z) h
+          | inr h ↦ at_as view.file.now.tokens view.number (IsMethod view.file.now.nodes view.typed.now k) (IsPart view k) x p (λ y z. method z) h
         ]
-        | inr h ↦ at_as view.tokens.now view.file (IsBodilessIn view k) (IsPart view k) x p (λ y z. bodiless z) h
+        | inr h ↦ at_as view.file.now.tokens view.number (IsBodilessIn view k) (IsPart view k) x p (λ y z. bodiless z) h
       ])
       (λ x p h. split x p h.token h.begins (record { feature = x; token = h.token }) refl h.holds)
       (adds_both _ _ a f g (adds_both _ _ a e f (adds_both _ _ a d e (adds_both _ _ a c d (adds_both _ _ a b c one two) three) four) five) six_)
     where
-      split : (x : Feature) (p : Place) (token : ℕ) → BeginsIn view.tokens.now view.file token p → (y : Part) → y ≡ record { feature = x; token = token } → IsPart view k y
-          → ((((At (IsDot view.nodes.now k) x p ⊎ At (IsPlain view.nodes.now k) x p) ⊎ At (IsNumber view.tokens.now view.nodes.now k) x p) ⊎ At (IsNamed view.nodes.now view.named.now k) x p) ⊎ At (IsMethod view.nodes.now view.typed.now k) x p) ⊎ At (IsBodilessIn view k) x p
-      split x p token begins y e (dot h) = inl (inl (inl (inl (inl (record { token = token; holds = subst (IsDot view.nodes.now k) e h; begins = begins })))))
-      split x p token begins y e (plain h) = inl (inl (inl (inl (inr (record { token = token; holds = subst (IsPlain view.nodes.now k) e h; begins = begins })))))
-      split x p token begins y e (number h) = inl (inl (inl (inr (record { token = token; holds = subst (IsNumber view.tokens.now view.nodes.now k) e h; begins = begins }))))
-      split x p token begins y e (named h) = inl (inl (inr (record { token = token; holds = subst (IsNamed view.nodes.now view.named.now k) e h; begins = begins })))
-      split x p token begins y e (method h) = inl (inr (record { token = token; holds = subst (IsMethod view.nodes.now view.typed.now k) e h; begins = begins }))
+      split : (x : Feature) (p : Place) (token : ℕ) → BeginsIn view.file.now.tokens view.number token p → (y : Part) → y ≡ record { feature = x; token = token } → IsPart view k y
+          → ((((At (IsDot view.file.now.nodes k) x p ⊎ At (IsPlain view.file.now.nodes k) x p) ⊎ At (IsNumber view.file.now.tokens view.file.now.nodes k) x p) ⊎ At (IsNamed view.file.now.nodes view.named.now k) x p) ⊎ At (IsMethod view.file.now.nodes view.typed.now k) x p) ⊎ At (IsBodilessIn view k) x p
+      split x p token begins y e (dot h) = inl (inl (inl (inl (inl (record { token = token; holds = subst (IsDot view.file.now.nodes k) e h; begins = begins })))))
+      split x p token begins y e (plain h) = inl (inl (inl (inl (inr (record { token = token; holds = subst (IsPlain view.file.now.nodes k) e h; begins = begins })))))
+      split x p token begins y e (number h) = inl (inl (inl (inr (record { token = token; holds = subst (IsNumber view.file.now.tokens view.file.now.nodes k) e h; begins = begins }))))
+      split x p token begins y e (named h) = inl (inl (inr (record { token = token; holds = subst (IsNamed view.file.now.nodes view.named.now k) e h; begins = begins })))
+      split x p token begins y e (method h) = inl (inr (record { token = token; holds = subst (IsMethod view.file.now.nodes view.typed.now k) e h; begins = begins }))
       split x p token begins y e (bodiless h) = inr (record { token = token; holds = subst (IsBodilessIn view k) e h; begins = begins })
 
-  below_spans : {kind : _} {token last : ℕ} → Spans view.nodes.now k kind token last → k < length view.nodes.now
-  below_spans s = get_below view.nodes.now k _ s.there
+  below_spans : {kind : _} {token last : ℕ} → Spans view.file.now.nodes k kind token last → k < length view.file.now.nodes
+  below_spans s = get_below view.file.now.nodes k _ s.there
 
-  pub part_below : (x : Part) → IsPart view k x → k < length view.nodes.now
-  part_below x (dot h) = let s = site_there view.nodes.now k _ _ _ h.is in get_below view.nodes.now k s.0 s.1
+  pub part_below : (x : Part) → IsPart view k x → k < length view.file.now.nodes
+  part_below x (dot h) = let s = site_there view.file.now.nodes k _ _ _ h.is in get_below view.file.now.nodes k s.0 s.1
   part_below _ (plain (type_parameters s)) = below_spans s
   part_below _ (plain (goto_ s)) = below_spans s
   part_below x (number h) = below_spans h.literal.spans
   part_below x (named h) = below_spans h.is.spans
   part_below x (method h) = go h.atom h.is_atom
     where
-      go : (a : ℕ) → IsAtom view.nodes.now view.typed.now k a → k < length view.nodes.now
+      go : (a : ℕ) → IsAtom view.file.now.nodes view.typed.now k a → k < length view.file.now.nodes
       go _ (name is _) = below_spans is.spans
       go _ (member _ _ is _) = below_spans is.spans
       go _ (form is) = below_spans is.spans
   part_below x (bodiless h) = below_spans h.is.name.spans
 
-pub nodes_all : (view : View) (k : ℕ) (old new : List Spot) → length view.nodes.now ≤ k → Adds (UpTo (λ j. IsAt view.tokens.now view.file (IsPart view j)) k) old new → Adds (IsAtSome view) old new
+pub nodes_all : (view : View) (k : ℕ) (old new : List Spot) → length view.file.now.nodes ≤ k → Adds (UpTo (λ j. IsAt view.file.now.tokens view.number (IsPart view j)) k) old new → Adds (IsAtSome view) old new
 nodes_all view k old new long a =
-    adds_as (λ f p. (j : ℕ) × IsAt view.tokens.now view.file (IsPart view j) f p) (IsAtSome view) old new
+    adds_as (λ f p. (j : ℕ) × IsAt view.file.now.tokens view.number (IsPart view j) f p) (IsAtSome view) old new
     (λ f p h. record { node = h.0; is = h.1 }) (λ f p h. (h.node, h.is))
-    (adds_all (λ j. IsAt view.tokens.now view.file (IsPart view j)) k old new (λ j f p h. omega (arith, long, part_below view j (record { feature = f; token = h.token }) h.holds)) a)
+    (adds_all (λ j. IsAt view.file.now.tokens view.number (IsPart view j)) k old new (λ j f p h. omega (arith, long, part_below view j (record { feature = f; token = h.token }) h.holds)) a)
 
-pub bodiless_known : (view : View) (k : ℕ) (path : List ℕ) (o : Option Part) → option_map (λ r. r.now) view.path ≡ Some path → IsExact (IsBodiless (read_in view) view.entries.now path k) o → IsExact (IsBodilessIn view k) o
+pub bodiless_known : (view : View) (k : ℕ) (path : List ℕ) (o : Option Part) → option_map (λ r. r.now) view.path ≡ Some path → Exactly (IsBodiless view.file.now view.entries.now path k) o → Exactly (IsBodilessIn view k) o
 bodiless_known view k path o here is =
     record {
       sound = λ x e. record { path = path; here = here; is = is.sound x e };
-      complete = λ x h. is.complete x (subst (λ p. IsBodiless (read_in view) view.entries.now p k x) (some_is h.path path (sym h.here ∙ here)) h.is);
+      complete = λ x h. is.complete x (subst (λ p. IsBodiless view.file.now view.entries.now p k x) (some_is h.path path (sym h.here ∙ here)) h.is);
     }

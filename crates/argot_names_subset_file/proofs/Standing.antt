@@ -7,10 +7,10 @@ use Rattle.argot_typed.specs.declared.program.Decl.{Decl}
 use Rattle.argot_names_rules.specs.Lists.{IsOrdered}
 use Rattle.argot_names_rules.specs.declared.flag.Feature.{Feature}
 use Rattle.argot_names_imports.proofs.Lists.{get_below, get_there}
-use Rattle.argot_names_blocks.proofs.Listed.{some_is, get_set_same, get_set_other, length_set}
+use Rattle.argot_files.proofs.Listed.{some_is, get_set_same, get_set_other, length_set}
 use Rattle.argot_names_subset_file.specs.declared.standings.Standings.{Standings}
-use Rattle.argot_names_subset_file.specs.Exact.{IsExact}
-use Rattle.argot_names_subset_file.proofs.Exactly.{exact_holds, exact_one, exact_not}
+use Rattle.argot_answers.specs.Answers.{Exactly}
+use Rattle.argot_answers.proofs.Exactly.{exact_holds, exact_one, exact_not}
 use Rattle.argot_names_subset_file.specs.Standings.{feature_numbered, IsNodeOf, IsTypeDecl, predeclared, declared, Stands, StandsBefore, IsFeatured, AreStandings}
 
 abbrev pub ByNode : Use → Use → Type 0
@@ -91,7 +91,7 @@ module _ {A : Type 0} (uses : List Use) (ordered : IsOrdered ByNode uses) (Shows
 pub type_numbered : (types : List Bool) (decls : List Decl) (decl : ℕ) → decl < 22 → IsTrue true ↔ IsTypeDecl types decls decl
 type_numbered types decls decl l = (λ _. predeclared l, λ _. refl)
 
-pub type_declared : (types : List Bool) (decls : List Decl) (decl node : ℕ) (b : Bool) → 22 ≤ decl → IsExact (IsNodeOf decls decl) (Some node) → IsTrue b ↔ (slice_get types node ≡ Some true) → IsTrue b ↔ IsTypeDecl types decls decl
+pub type_declared : (types : List Bool) (decls : List Decl) (decl node : ℕ) (b : Bool) → 22 ≤ decl → Exactly (IsNodeOf decls decl) (Some node) → IsTrue b ↔ (slice_get types node ≡ Some true) → IsTrue b ↔ IsTypeDecl types decls decl
 type_declared types decls decl node b l is t =
     let h = exact_holds (IsNodeOf decls decl) node is in
     (λ is_so. declared h.there h.node_is (t.0 is_so), from)
@@ -100,7 +100,7 @@ type_declared types decls decl node b l is t =
     from (predeclared less) = absurd (omega (arith, l, less))
     from (declared {item} {node = n} there node_is marked) = t.1 (subst (λ x. slice_get types x ≡ Some true) (exact_one (IsNodeOf decls decl) node is n (record { item = item; there = there; node_is = node_is })) marked)
 
-pub type_none : (types : List Bool) (decls : List Decl) (decl : ℕ) → 22 ≤ decl → IsExact (IsNodeOf decls decl) None → IsTrue false ↔ IsTypeDecl types decls decl
+pub type_none : (types : List Bool) (decls : List Decl) (decl : ℕ) → 22 ≤ decl → Exactly (IsNodeOf decls decl) None → IsTrue false ↔ IsTypeDecl types decls decl
 type_none types decls decl l is = (λ no_way. absurd (cc), from)
   where
     from : IsTypeDecl types decls decl → IsTrue false

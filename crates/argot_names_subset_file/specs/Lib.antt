@@ -1,5 +1,4 @@
 pub mod Spots
-pub mod Exact
 pub mod Atoms
 pub mod Receivers
 pub mod Parts

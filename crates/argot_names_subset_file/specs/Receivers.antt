@@ -8,9 +8,6 @@ use Rattle.argot_names_rules.specs.Files.{SourceFile}
 use Rattle.argot_names_rules.specs.Nodes.{Spans, IsOf, IsFirstChild, IsNext, IsChild, is_params}
 use Rattle.argot_names_rules.specs.Subset.{wraps_receiver, HasType, HasBase, HasEntry, ReceiverName}
 
-abbrev pub file_of : List ℕ → List Token → List TreeNode → SourceFile
-file_of bytes tokens nodes = record { bytes = bytes; tokens = tokens; nodes = nodes }
-
 -- the type of the first parameter of a list
 pub record IsListType (tree : List TreeNode) (list type_ : ℕ) : Type 0 where
   pub from : ℕ

@@ -6,7 +6,7 @@ use Rattle.argot_tree.specs.declared.tree.TreeNode.{TreeNode}
 use Rattle.argot_names_rules.specs.Nodes.{Is, IsOf, IsChild}
 use Rattle.argot_names_rules.specs.Bindings.{specifies_type}
 use Rattle.argot_names_rules.specs.Loaded.{count_nodes}
-use Rattle.argot_names_blocks.specs.Links.{IsLinked}
+use Rattle.argot_files.specs.Links.{IsLinked}
 
 -- the node is the name of a type that is declared
 pub record IsTypeDeclared (tree : List TreeNode) (node : ℕ) : Type 0 where

@@ -1,9 +1,9 @@
 // Imports of packages that are left out, and comments for the compiler.
 ghost use Rattle.std.specs.Prelude.{◌≡◌, ◌↔◌, ◌++◌, IsTrue, OnOk, true, false, codes};
 ghost use Rattle.argot_names_rules.specs.Subset.{LeavesOut, IsDirective, directive_at};
-ghost use Rattle.argot_names_subset_file.specs.Exact.{IsExact};
+ghost use Rattle.argot_answers.specs.Answers.{Exactly};
 ghost use Rattle.argot_names_subset_file.specs.Spots.{Adds};
-ghost use Rattle.argot_names_subset_file.specs.Files.{IsImportOut, IsImportSome, IsDirected, IsDirectedSome, read_in};
+ghost use Rattle.argot_names_subset_file.specs.Files.{IsImportOut, IsImportSome, IsDirected, IsDirectedSome};
 
 use crate::notes::note_part;
 use crate::parts::Part;
@@ -13,7 +13,6 @@ use argot_names_imports::{Written, import_at, imports_of};
 use argot_names_module::line_at;
 use argot_names_rules::Feature;
 use argot_text::Memory;
-use argot_tree::Token;
 use std::alloc::Global;
 use std::collections::BTreeSet;
 
@@ -26,7 +25,7 @@ fn is_text(text: &[u8], word: &[u8]) -> bool
 
 /// The feature of an import path that is left out.
 fn left_out(path: &[u8]) -> Option<Feature>
-    ensures { IsExact (LeavesOut path.now) result }
+    ensures { Exactly (LeavesOut path.now) result }
 {
     if is_text(path, "unsafe".as_bytes()) {
         return Some(Feature::ImportUnsafe);
@@ -42,7 +41,7 @@ fn left_out(path: &[u8]) -> Option<Feature>
 
 /// An import of a package that is left out, at its path.
 fn import_part(import: &Written) -> Option<Part>
-    ensures { IsExact (IsImportOut import.now.path import.now.path_at) result }
+    ensures { Exactly (IsImportOut import.now.path import.now.path_at) result }
 {
     match left_out(import.path.as_slice()) {
         Some(feature) => Some(Part {
@@ -57,14 +56,16 @@ fn import_part(import: &Written) -> Option<Part>
 pub fn note_imports(alloc: Global, spots: &mut BTreeSet<Spot>, view: &View) -> Result<(), Memory>
     ensures { OnOk result (Adds (IsImportSome view.now) spots.old.keys spots.new.keys) }
 {
-    let imports = imports_of(alloc, view.file, view.bytes, view.tokens, view.nodes)?;
+    let file = view.file;
+    let imports = imports_of(
+        alloc,
+        view.number,
+        file.bytes(),
+        file.tokens(),
+        file.nodes(),
+    )?;
     for k in 0..imports.len() {
-        note_part(
-            spots,
-            view.file,
-            view.tokens,
-            import_part(import_at(&imports, k)),
-        )?;
+        note_part(spots, view, import_part(import_at(&imports, k)))?;
     }
     Ok(())
 }

@@ -1,5 +1,5 @@
 // Entries for functions without bodies, found by what they name.
-ghost use Rattle.std.specs.Prelude.{◌≡◌, ◌<◌, true, false, cond, ℕ, List, length, slice_get, Some, IfOk, OnOk};
+ghost use Rattle.std.specs.Prelude.{◌≡◌, ◌↔◌, ◌<◌, IsTrue, true, cond, ℕ, List, length, slice_get, Some, IfOk, OnOk};
 ghost use Rattle.argot_names_rules.specs.Subset.{HasEntry};
 ghost use Rattle.argot_names_subset_file.specs.Entries.{names, has_key, IsKeyOf};
 
@@ -83,8 +83,7 @@ pub fn entry_table<'a>(alloc: Global, entries: &'a [Entry]) -> Result<EntryTable
 
 /// Whether there is an entry for the function of this name, of the receiver's type and the package's path.
 pub fn has_entry<'x>(table: &EntryTable, path: &'x [u8], receiver: &'x [u8], name: &'x [u8]) -> bool
-    ensures yes { result ≡ true → HasEntry table.now path.now receiver.now name.now }
-    ensures no { result ≡ false → HasEntry table.now path.now receiver.now name.now → ⊥ }
+    ensures { IsTrue result ↔ HasEntry table.now path.now receiver.now name.now }
 {
     has(
         &table.keys,

@@ -2,7 +2,7 @@
 ghost use Rattle.std.specs.Prelude.{◌≡◌, OnOk, IfOk};
 ghost use Rattle.argot_names_rules.specs.Lists.{IsListOf, IsOrdered};
 ghost use Rattle.argot_names_subset_file.specs.Spots.{Adds, IsSpotted, IsSpotBefore};
-ghost use Rattle.argot_names_subset_file.specs.Files.{IsReady, IsInFile};
+ghost use Rattle.argot_names_subset_file.specs.Files.{IsInFile};
 
 use crate::comments::{note_directives, note_imports};
 use crate::notes::note_nodes;
@@ -19,11 +19,10 @@ pub fn note_file(
     view: &View,
     directives: &[u32],
 ) -> Result<(), Memory>
-    requires { IsReady view.now }
     ensures { OnOk result (Adds (IsInFile view.now directives.now) spots.old.keys spots.new.keys) }
 {
     note_imports(alloc, spots, view)?;
-    note_directives(spots, view.bytes, view.file, directives)?;
+    note_directives(spots, view.file.bytes(), view.number, directives)?;
     note_nodes(spots, view)
 }
 
@@ -39,7 +38,6 @@ pub fn listed(alloc: Global, spots: &BTreeSet<Spot>) -> Result<Vec<Spot>, Memory
 /// All that is left out in a file, each feature at each place once, by place and then in the order of features.
 /// `directives` has the offsets of its comments for the compiler.
 pub fn spots_of(alloc: Global, view: &View, directives: &[u32]) -> Result<Vec<Spot>, Memory>
-    requires { IsReady view.now }
     ensures { IfOk result (λ v. IsListOf IsSpotBefore (IsSpotted (IsInFile view.now directives.now)) v.items) }
 {
     let mut spots = BTreeSet::new(alloc);

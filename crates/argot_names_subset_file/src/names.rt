@@ -1,19 +1,18 @@
 // Names and selectors that are left out, by tables of what names stand for.
 ghost use Rattle.std.specs.Prelude.{◌≡◌, ◌↔◌, IsTrue, Some, true, slice_get};
 ghost use Rattle.argot_names_rules.specs.Subset.{is_name, is_type_form, wraps_type};
-ghost use Rattle.argot_names_blocks.specs.Links.{IsLinked};
-ghost use Rattle.argot_names_blocks.specs.Parents.{AreParents};
-ghost use Rattle.argot_names_subset_file.specs.Exact.{IsExact};
+ghost use Rattle.argot_answers.specs.Answers.{Exactly};
 ghost use Rattle.argot_tree.specs.declared.node_kind.NodeKind.TheVariants.{Selector};
 ghost use Rattle.argot_names_subset_file.specs.Atoms.{IsAtom, IsBeforeDot, IsSelectorOf, IsAboveFirst};
 ghost use Rattle.argot_names_subset_file.specs.Parts.{IsStanding, IsNamed, IsMethod};
 
-use crate::links::{is_link, parent_of};
+use crate::links::{above_of, is_link, is_lone_key};
 use crate::parts::Part;
-use argot_names_blocks::{Found, is_key};
-use argot_names_imports::node_at;
+use crate::view::View;
+use argot_files::File;
+use argot_names_blocks::Found;
 use argot_names_rules::Feature;
-use argot_tree::{NodeKind, TreeNode};
+use argot_tree::NodeKind;
 
 /// Whether a scope resolves the name of a node of this kind.
 fn is_name(kind: NodeKind) -> bool
@@ -57,7 +56,7 @@ fn is_selector(kind: NodeKind) -> bool
 
 /// The feature that the table has for node k.
 fn standing(named: &[Option<Feature>], k: usize) -> Option<Feature>
-    ensures { IsExact (IsStanding named.now k) result }
+    ensures { Exactly (IsStanding named.now k) result }
 {
     match named.get(k) {
         Some(feature) => *feature,
@@ -76,41 +75,28 @@ pub fn is_typed(typed: &[bool], k: usize) -> bool
 }
 
 /// A name that stands for a feature, at its token; a lone key in a composite literal doesn't count.
-pub fn named_at(
-    nodes: &[TreeNode],
-    parents: &[Option<usize>],
-    named: &[Option<Feature>],
-    k: usize,
-) -> Option<Part>
-    requires { AreParents nodes.now parents.now }
-    ensures { IsExact (IsNamed nodes.now named.now k) result }
+pub fn named_at(view: &View, k: usize) -> Option<Part>
+    ensures { Exactly (IsNamed view.now.file.now.nodes view.now.named.now k) result }
 {
-    let Some(node) = node_at(nodes, k) else {
-        return None;
-    };
+    let node = view.file.node(k)?;
     if !is_name(node.kind) {
         return None;
     }
-    if is_key(nodes, parents, k) {
+    if is_lone_key(view.file, k) {
         return None;
     }
-    match standing(named, k) {
-        Some(feature) => Some(Part {
-            feature,
-            token: node.token,
-        }),
-        None => None,
-    }
+    let feature = standing(view.named, k)?;
+    Some(Part {
+        feature,
+        token: node.token,
+    })
 }
 
 /// The selector of whose parts node k is one.
-fn selector_of(nodes: &[TreeNode], parents: &[Option<usize>], k: usize) -> Option<usize>
-    requires { AreParents nodes.now parents.now }
-    ensures { IsExact (IsSelectorOf nodes.now k) result }
+fn selector_of(file: &File, k: usize) -> Option<usize>
+    ensures { Exactly (IsSelectorOf file.now.nodes k) result }
 {
-    let Some(above) = parent_of(nodes, parents, k) else {
-        return None;
-    };
+    let above = above_of(file, k)?;
     match above.node.kind {
         NodeKind::Selector => Some(above.at),
         _ => None,
@@ -118,18 +104,21 @@ fn selector_of(nodes: &[TreeNode], parents: &[Option<usize>], k: usize) -> Optio
 }
 
 /// The expression that node k makes denote a type: itself, or the selector of whose name it is.
-fn atom_at(nodes: &[TreeNode], parents: &[Option<usize>], typed: &[bool], k: usize) -> Option<usize>
-    requires { AreParents nodes.now parents.now }
-    ensures { IsExact (IsAtom nodes.now typed.now k) result }
+fn atom_at(view: &View, k: usize) -> Option<usize>
+    ensures { Exactly (IsAtom view.now.file.now.nodes view.now.typed.now k) result }
 {
-    let Some(node) = node_at(nodes, k) else {
-        return None;
-    };
+    let node = view.file.node(k)?;
     match node.kind {
-        NodeKind::NameUse => { if is_typed(typed, k) { Some(k) } else { None } }
+        NodeKind::NameUse => {
+            if is_typed(view.typed, k) {
+                Some(k)
+            } else {
+                None
+            }
+        }
         NodeKind::SelectedName => {
-            if is_typed(typed, k) {
-                selector_of(nodes, parents, k)
+            if is_typed(view.typed, k) {
+                selector_of(view.file, k)
             } else {
                 None
             }
@@ -139,13 +128,10 @@ fn atom_at(nodes: &[TreeNode], parents: &[Option<usize>], typed: &[bool], k: usi
 }
 
 /// The parent of node k, where k is its first child.
-fn above_first(nodes: &[TreeNode], parents: &[Option<usize>], k: usize) -> Option<Found>
-    requires { AreParents nodes.now parents.now }
-    ensures { IsExact (IsAboveFirst nodes.now k) result }
+fn above_first(file: &File, k: usize) -> Option<Found>
+    ensures { Exactly (IsAboveFirst file.now.nodes k) result }
 {
-    let Some(above) = parent_of(nodes, parents, k) else {
-        return None;
-    };
+    let above = above_of(file, k)?;
     if is_link(above.node.first, k) {
         Some(above)
     } else {
@@ -154,13 +140,12 @@ fn above_first(nodes: &[TreeNode], parents: &[Option<usize>], k: usize) -> Optio
 }
 
 /// The selector before whose dot the expression stands, in any number of parentheses and stars.
-fn before_dot(nodes: &[TreeNode], parents: &[Option<usize>], k: usize) -> Option<usize>
-    requires linked { IsLinked nodes.now }
-    requires parents { AreParents nodes.now parents.now }
-    ensures { IsExact (IsBeforeDot nodes.now k) result }
+fn before_dot(file: &File, k: usize) -> Option<usize>
+    ensures { Exactly (IsBeforeDot file.now.nodes k) result }
 {
+    let _linked = file.nodes();
     let mut at = k;
-    while let Some(above) = above_first(nodes, parents, at) {
+    while let Some(above) = above_first(file, at) {
         if is_selector(above.node.kind) {
             return Some(above.at);
         }
@@ -173,27 +158,14 @@ fn before_dot(nodes: &[TreeNode], parents: &[Option<usize>], k: usize) -> Option
 }
 
 /// A selector whose operand denotes a type by node k, at its first token.
-pub fn method_at(
-    nodes: &[TreeNode],
-    parents: &[Option<usize>],
-    typed: &[bool],
-    k: usize,
-) -> Option<Part>
-    requires linked { IsLinked nodes.now }
-    requires parents { AreParents nodes.now parents.now }
-    ensures { IsExact (IsMethod nodes.now typed.now k) result }
+pub fn method_at(view: &View, k: usize) -> Option<Part>
+    ensures { Exactly (IsMethod view.now.file.now.nodes view.now.typed.now k) result }
 {
-    let Some(atom) = atom_at(nodes, parents, typed, k) else {
-        return None;
-    };
-    let Some(selector) = before_dot(nodes, parents, atom) else {
-        return None;
-    };
-    match node_at(nodes, selector) {
-        Some(node) => Some(Part {
-            feature: Feature::MethodExpression,
-            token: node.token,
-        }),
-        None => None,
-    }
+    let atom = atom_at(view, k)?;
+    let selector = before_dot(view.file, atom)?;
+    let node = view.file.node(selector)?;
+    Some(Part {
+        feature: Feature::MethodExpression,
+        token: node.token,
+    })
 }

@@ -1,12 +1,12 @@
 // What is left out at one node of a file, but for what names stand for.
-ghost use Rattle.std.specs.Prelude.{◌≡◌, slice_get};
-ghost use Rattle.argot_names_subset_file.specs.Exact.{IsExact};
+ghost use Rattle.argot_answers.specs.Answers.{Exactly};
 ghost use Rattle.argot_names_rules.specs.Subset.{LeavesLiteral};
 ghost use Rattle.argot_names_subset_file.specs.Parts.{IsKindAt, IsLiteralAt, IsDot, IsPlain, IsNumber};
 
-use argot_names_imports::{node_at, site_at};
+use argot_files::File;
+use argot_names_imports::site_at;
 use argot_names_rules::{Alias, Feature};
-use argot_tree::{NodeKind, Token, TokenKind, TreeNode};
+use argot_tree::{NodeKind, TokenKind};
 
 /// A feature, and the token at which it stands.
 #[derive(Clone, Copy, Debug, PartialEq, Eq)]
@@ -16,12 +16,10 @@ pub struct Part {
 }
 
 /// An import under a dot, at its first token.
-pub fn dot_at(nodes: &[TreeNode], k: usize) -> Option<Part>
-    ensures { IsExact (IsDot nodes.now k) result }
+pub fn dot_at(file: &File, k: usize) -> Option<Part>
+    ensures { Exactly (IsDot file.now.nodes k) result }
 {
-    let Some(site) = site_at(nodes, k) else {
-        return None;
-    };
+    let site = site_at(file.nodes(), k)?;
     match site.alias {
         Alias::Dotted => Some(Part {
             feature: Feature::DotImport,
@@ -32,12 +30,10 @@ pub fn dot_at(nodes: &[TreeNode], k: usize) -> Option<Part>
 }
 
 /// Type parameters and `goto`, at their first tokens.
-pub fn plain_at(nodes: &[TreeNode], k: usize) -> Option<Part>
-    ensures { IsExact (IsPlain nodes.now k) result }
+pub fn plain_at(file: &File, k: usize) -> Option<Part>
+    ensures { Exactly (IsPlain file.now.nodes k) result }
 {
-    let Some(node) = node_at(nodes, k) else {
-        return None;
-    };
+    let node = file.node(k)?;
     match node.kind {
         NodeKind::TypeParams => Some(Part {
             feature: Feature::TypeParameters,
@@ -53,7 +49,7 @@ pub fn plain_at(nodes: &[TreeNode], k: usize) -> Option<Part>
 
 /// The feature of a literal by the kind of its token.
 fn number_of(kind: TokenKind) -> Option<Feature>
-    ensures { IsExact (LeavesLiteral kind) result }
+    ensures { Exactly (LeavesLiteral kind) result }
 {
     match kind {
         TokenKind::Float => Some(Feature::FloatingPointLiteral),
@@ -62,30 +58,19 @@ fn number_of(kind: TokenKind) -> Option<Feature>
     }
 }
 
-/// The token of this number.
-pub fn token_at(tokens: &[Token], k: u32) -> Option<Token>
-    ensures { result ≡ slice_get tokens.now k }
-{
-    tokens.get(k as usize).copied()
-}
-
 /// The kind of a token.
-fn kind_at(tokens: &[Token], token: u32) -> Option<TokenKind>
-    ensures { IsExact (IsKindAt tokens.now token) result }
+fn kind_at(file: &File, token: u32) -> Option<TokenKind>
+    ensures { Exactly (IsKindAt file.now.tokens token) result }
 {
-    match tokens.get(token as usize) {
-        Some(is) => Some(is.kind),
-        None => None,
-    }
+    let is = file.token(token)?;
+    Some(is.kind)
 }
 
 /// The token of a literal.
-fn literal_at(nodes: &[TreeNode], k: usize) -> Option<u32>
-    ensures { IsExact (IsLiteralAt nodes.now k) result }
+fn literal_at(file: &File, k: usize) -> Option<u32>
+    ensures { Exactly (IsLiteralAt file.now.nodes k) result }
 {
-    let Some(node) = node_at(nodes, k) else {
-        return None;
-    };
+    let node = file.node(k)?;
     match node.kind {
         NodeKind::Literal => Some(node.token),
         _ => None,
@@ -93,17 +78,11 @@ fn literal_at(nodes: &[TreeNode], k: usize) -> Option<u32>
 }
 
 /// A literal with a point or an exponent, or an imaginary one.
-pub fn number_at(tokens: &[Token], nodes: &[TreeNode], k: usize) -> Option<Part>
-    ensures { IsExact (IsNumber tokens.now nodes.now k) result }
+pub fn number_at(file: &File, k: usize) -> Option<Part>
+    ensures { Exactly (IsNumber file.now.tokens file.now.nodes k) result }
 {
-    let Some(token) = literal_at(nodes, k) else {
-        return None;
-    };
-    let Some(kind) = kind_at(tokens, token) else {
-        return None;
-    };
-    match number_of(kind) {
-        Some(feature) => Some(Part { feature, token }),
-        None => None,
-    }
+    let token = literal_at(file, k)?;
+    let kind = kind_at(file, token)?;
+    let feature = number_of(kind)?;
+    Some(Part { feature, token })
 }

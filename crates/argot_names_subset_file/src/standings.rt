@@ -2,7 +2,7 @@
 ghost use Rattle.std.specs.Prelude.{◌≡◌, ◌↔◌, ◌<◌, IsTrue, IfOk, Some, length, slice_get, slice_set};
 ghost use Rattle.argot_typed.specs.declared.program.Use.{Use};
 ghost use Rattle.argot_names_rules.specs.Lists.{In, IsOrdered};
-ghost use Rattle.argot_names_subset_file.specs.Exact.{IsExact};
+ghost use Rattle.argot_answers.specs.Answers.{Exactly};
 ghost use Rattle.argot_names_subset_file.specs.Standings.{feature_numbered, IsNodeOf, IsTypeDecl, AreStandings};
 
 use crate::names::is_typed;
@@ -41,7 +41,7 @@ fn feature_numbered(decl: u32) -> Option<Feature>
 
 /// The node of a declaration.
 fn node_of(decls: &[Decl], decl: u32) -> Option<u32>
-    ensures { IsExact (IsNodeOf decls.now decl) result }
+    ensures { Exactly (IsNodeOf decls.now decl) result }
 {
     match decls.get(decl as usize) {
         Some(item) => item.node,

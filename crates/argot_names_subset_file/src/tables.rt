@@ -2,12 +2,12 @@
 ghost use Rattle.std.specs.Prelude.{◌≡◌, ◌↔◌, ◌<◌, ◌≤◌, IsTrue, IfOk, OnOk, length, slice_get, Some};
 ghost use Rattle.argot_names_rules.specs.Loaded.{count_nodes};
 ghost use Rattle.argot_names_rules.specs.Bindings.{specifies_type};
-ghost use Rattle.argot_names_blocks.specs.Parents.{AreParents};
-ghost use Rattle.argot_names_blocks.specs.Links.{IsLinked};
+ghost use Rattle.argot_files.specs.Parents.{AreParents};
+ghost use Rattle.argot_files.specs.Links.{IsLinked};
 ghost use Rattle.argot_names_subset_file.specs.Tables.{IsTypeDeclared, AreTypesUpTo, AreTypes, AreLinked, AreBases};
 
 use crate::links::parent_of;
-use argot_names_blocks::parents_of;
+use argot_files::parents_of;
 use argot_names_imports::node_at;
 use argot_text::Memory;
 use argot_tree::{NodeKind, Tree, TreeNode};
@@ -43,7 +43,7 @@ fn push_types(alloc: Global, types: &mut Vec<bool>, tree: &Tree) -> Result<(), M
     ensures { OnOk result (AreTypesUpTo tree.now.nodes (length tree.now.nodes) types.old.items types.new.items) }
 {
     let nodes = tree.nodes.as_slice();
-    let parents = parents_of(alloc, tree)?;
+    let parents = parents_of(alloc, nodes)?;
     for k in 0..nodes.len() {
         types.push(is_type_declared(nodes, &parents, k))?;
     }

@@ -11,7 +11,7 @@ use Rattle.argot_names_scopes.specs.Files.{IsAgain, BeginsAt, IsFirstPlace, HasN
 use Rattle.argot_names_scopes.specs.declared.file.FileNames.{FileNames}
 use Rattle.argot_names_imports.specs.declared.reached.Reached.{Reached}
 use Rattle.argot_names_imports.specs.Reached.{IsReach}
-use Rattle.argot_names_tops.specs.declared.place.Place.{Place}
+use Rattle.argot_files.specs.declared.place.Place.{Place}
 use Rattle.argot_names_tops.specs.First.{NamesFirst, there, nowhere, Either, sooner_of}
 use Rattle.argot_names_tops.specs.Behind.{IsAgainIn, IsAgainBelow}
 use Rattle.argot_names_tops.specs.Tops.{IsNamesOf, AreFiles}

@@ -3,8 +3,8 @@ use Rattle.std.proofs.Common.{◌≡◌, true, false, inl, inr, arith, ◌∙◌
 use Rattle.std.specs.Prelude.{nat_eq, nat_lt, ◌&&◌}
 use Rattle.std.proofs.lemmas.Bool.{or_cases, and_parts, ltb-true, eqb-true, lt-ltb, eq-eqb, or_left, or_right, and_from, both_ways}
 use Rattle.argot_names_rules.specs.Files.{Place as Byte, IsBefore, by_file, by_offset}
-use Rattle.argot_names_tops.specs.declared.place.Place.{Place}
-use Rattle.argot_names_tops.specs.Places.{place_of}
+use Rattle.argot_files.specs.declared.place.Place.{Place}
+use Rattle.argot_files.specs.Places.{place_of}
 use Rattle.argot_names_tops.specs.Entries.{is_before}
 
 pub before_by : (a b : Place) → is_before a b ≡ true → IsBefore (place_of a) (place_of b)

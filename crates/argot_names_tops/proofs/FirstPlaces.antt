@@ -4,10 +4,10 @@ use Rattle.std.specs.Prelude.{slice_get, IfSome, IfNone}
 use Rattle.std.proofs.lemmas.Bool.{cond_both, cases_order, cases_eq}
 use Rattle.argot_names_rules.specs.Files.{Place as Byte, IsBefore, by_file, by_offset, IsFirst}
 use Rattle.argot_names_imports.proofs.Lists.{get_below}
-use Rattle.argot_names_tops.specs.declared.place.Place.{Place}
+use Rattle.argot_files.specs.declared.place.Place.{Place}
 use Rattle.argot_names_tops.specs.declared.named.Named.{Named}
 use Rattle.argot_names_tops.specs.declared.entries.Entry.{Entry}
-use Rattle.argot_names_tops.specs.Places.{place_of}
+use Rattle.argot_files.specs.Places.{place_of}
 use Rattle.argot_names_tops.specs.Entries.{Entries, found_at, is_before, IsEntry, IsEntryOf, found, missing, AreEntries}
 use Rattle.argot_names_tops.specs.First.{NamesFirst, there, nowhere, Either, sooner_of}
 use Rattle.argot_names_tops.specs.Behind.{IsItemBehind, IsBehindBelow}

@@ -26,12 +26,12 @@ use Rattle.argot_names_imports.specs.Reached.{homes_of, IsReach}
 use Rattle.argot_names_imports.specs.Numbers.{IsOfNumber, IsFoundBy}
 use Rattle.argot_names_imports.proofs.Standing.{first_is_one}
 use Rattle.argot_names_tops.specs.declared.named.Named.{Named}
-use Rattle.argot_names_tops.specs.Places.{place_of}
+use Rattle.argot_files.specs.Places.{place_of}
 use Rattle.argot_names_tops.specs.TopNames.{start_of}
 use Rattle.argot_names_tops.specs.Importing.{IsImportName, HasImport, AreImportNames}
 use Rattle.argot_names_tops.specs.Collecting.{AreCollected}
 use Rattle.argot_names_tops.specs.ImportNames.{IsImportAt, IsImportItem, GivesImport, written_in}
-use Rattle.argot_names_tops.specs.declared.place.Place.{Place as Spot}
+use Rattle.argot_files.specs.declared.place.Place.{Place as Spot}
 
 some_is : {A : Type 0} (x y : A) → Some x ≡ Some y → x ≡ y
 some_is x y e = cc

@@ -12,7 +12,7 @@ use Rattle.argot_names_imports.specs.Reached.{homes_of}
 use Rattle.argot_names_imports.specs.Numbers.{IsOfNumber}
 use Rattle.argot_names_tops.specs.declared.named.Named.{Named}
 use Rattle.argot_names_tops.specs.declared.tops.Tops.{Tops}
-use Rattle.argot_names_tops.specs.Places.{place_of}
+use Rattle.argot_files.specs.Places.{place_of}
 use Rattle.argot_names_tops.specs.Entries.{IsAt, AreEntries, Entries, IsFirstItem}
 use Rattle.argot_names_tops.specs.Declaring.{HasItem}
 use Rattle.argot_names_tops.specs.Importing.{HasImport}

@@ -8,7 +8,7 @@ use Rattle.std.proofs.lemmas.Bool.{and_parts, and_from, eqb-true, eq-eqb, cases_
 use Rattle.argot_names_rules.specs.Files.{IsBefore}
 use Rattle.argot_names_tops.specs.declared.named.Named.{Named}
 use Rattle.argot_names_tops.specs.declared.entries.Entry.{Entry}
-use Rattle.argot_names_tops.specs.Places.{place_of}
+use Rattle.argot_files.specs.Places.{place_of}
 use Rattle.argot_names_tops.specs.Entries.{Key, Entries, is_key, found_at, IsOf, is_before, entry_with, noted, IsAt, IsEntry, IsEntryOf, found, missing, AreEntries}
 use Rattle.argot_names_tops.proofs.Before.{before_by, not_before, never_before, before_through}
 

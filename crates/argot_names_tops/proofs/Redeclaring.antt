@@ -11,9 +11,9 @@ use Rattle.argot_names_imports.specs.declared.reached.Reached.{Reached}
 use Rattle.argot_names_imports.specs.Reached.{homes_of}
 use Rattle.argot_names_imports.specs.Numbers.{IsOfNumber}
 use Rattle.argot_names_tops.specs.declared.named.Named.{Named}
-use Rattle.argot_names_tops.specs.declared.place.Place.{Place}
+use Rattle.argot_files.specs.declared.place.Place.{Place}
 use Rattle.argot_names_tops.specs.declared.tops.Tops.{Tops}
-use Rattle.argot_names_tops.specs.Places.{place_of}
+use Rattle.argot_files.specs.Places.{place_of}
 use Rattle.argot_names_tops.specs.Collecting.{AreCollected}
 use Rattle.argot_names_tops.specs.Declaring.{HasItem}
 use Rattle.argot_names_tops.specs.Importing.{HasImport}

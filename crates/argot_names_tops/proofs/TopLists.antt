@@ -20,7 +20,7 @@ use Rattle.argot_names_imports.specs.declared.reached.Reached.{Reached}
 use Rattle.argot_names_imports.specs.Reached.{homes_of, IsReach}
 use Rattle.argot_names_imports.specs.Numbers.{IsOfNumber}
 use Rattle.argot_names_tops.specs.declared.named.Named.{Named}
-use Rattle.argot_names_tops.specs.Places.{place_of}
+use Rattle.argot_files.specs.Places.{place_of}
 use Rattle.argot_names_tops.specs.TopNames.{start_of, text_in, IsScopedTop, GivesTop}
 use Rattle.argot_names_tops.specs.Collecting.{AreCollected}
 use Rattle.argot_names_tops.specs.Declaring.{ComesBefore, IsDeclared, HasItem, AreDeclared, AreDeclaredIn, AreDeclaredBelow}

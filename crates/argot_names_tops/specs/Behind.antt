@@ -7,7 +7,7 @@ use Rattle.argot_names_rules.specs.declared.package_key.PackageKey.{PackageKey}
 use Rattle.argot_names_imports.specs.declared.reached.Reached.{Reached}
 use Rattle.argot_names_imports.specs.Numbers.{IsOfNumber}
 use Rattle.argot_names_tops.specs.declared.named.Named.{Named}
-use Rattle.argot_names_tops.specs.Places.{place_of}
+use Rattle.argot_files.specs.Places.{place_of}
 
 -- one of the others is the same name of the same scope, and stands before the item, whose place this is
 pub record IsItemBehind (others : List Named) (item : Named) (place : Byte) : Type 0 where

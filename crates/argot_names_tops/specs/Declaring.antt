@@ -4,7 +4,7 @@ use Rattle.argot_names_rules.specs.declared.package_key.PackageKey.{PackageKey}
 use Rattle.argot_names_rules.specs.Files.{SourceFiles, Place}
 use Rattle.argot_names_rules.specs.PackageScope.{IsTop}
 use Rattle.argot_names_tops.specs.declared.named.Named.{Named}
-use Rattle.argot_names_tops.specs.Places.{place_of}
+use Rattle.argot_files.specs.Places.{place_of}
 
 -- by file, and in a file by node
 abbrev pub ComesBefore : Named → Named → Type 0

@@ -8,9 +8,9 @@ use Rattle.std.specs.Borrow.{Bor}
 use Rattle.indexmap.specs.IndexMap.{IndexMap}
 use Rattle.argot_names_rules.specs.Files.{IsBefore}
 use Rattle.argot_names_tops.specs.declared.named.Named.{Named}
-use Rattle.argot_names_tops.specs.declared.place.Place.{Place}
+use Rattle.argot_files.specs.declared.place.Place.{Place}
 use Rattle.argot_names_tops.specs.declared.entries.Entry.{Entry}
-use Rattle.argot_names_tops.specs.Places.{place_of}
+use Rattle.argot_files.specs.Places.{place_of}
 
 abbrev pub Key : Type 0
 Key = ℕ × Bor (List ℕ)

@@ -1,8 +1,8 @@
 -- The first of the places that a claim holds of, or that there is none.
 use Rattle.std.specs.Prelude.{◌⊎◌, Option, Some, None, if◌then◌else◌}
 use Rattle.argot_names_rules.specs.Files.{Place as Byte, IsFirst}
-use Rattle.argot_names_tops.specs.declared.place.Place.{Place}
-use Rattle.argot_names_tops.specs.Places.{place_of}
+use Rattle.argot_files.specs.declared.place.Place.{Place}
+use Rattle.argot_files.specs.Places.{place_of}
 use Rattle.argot_names_tops.specs.Entries.{is_before}
 
 pub data NamesFirst (Holds : Byte → Type 0) : Option Place → Type 0 where

@@ -6,7 +6,7 @@ use Rattle.argot_names_imports.specs.declared.written.Written.{Written}
 use Rattle.argot_names_imports.specs.declared.reached.Reached.{Reached}
 use Rattle.argot_names_imports.specs.Numbers.{IsOfNumber}
 use Rattle.argot_names_tops.specs.declared.named.Named.{Named}
-use Rattle.argot_names_tops.specs.Places.{place_of}
+use Rattle.argot_files.specs.Places.{place_of}
 use Rattle.argot_names_tops.specs.Declaring.{HasItem}
 
 -- the item is a name that the import of its number declares, in the file that has its scope's number, which is one of a package

@@ -1,4 +1,3 @@
-pub mod Places
 pub mod Entries
 pub mod Declaring
 pub mod Importing
@@ -10,3 +9,4 @@ pub mod ImportNames
 pub mod First
 pub mod Behind
 pub mod Meanings
+pub mod Scopes

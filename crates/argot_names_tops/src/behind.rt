@@ -7,7 +7,7 @@ ghost use Rattle.argot_names_tops.specs.Behind.{IsItemBehind, IsBehindBelow};
 
 use crate::entries::{Entry, entry_at, item_at};
 use crate::named::Named;
-use crate::place::{Place, is_before};
+use argot_files::{Place, is_before};
 use indexmap::IndexMap;
 
 /// The one of two places that comes first, where there are two. No memory.
@@ -25,7 +25,8 @@ pub fn sooner(best: Option<Place>, place: Option<Place>) -> Option<Place>
 
 // The place of the item, where it stands behind the earliest place of its name in its scope.
 fn behind(entries: &IndexMap<(u32, &[u8]), Entry>, item: &Named) -> Option<Place>
-    ensures { (others : List Named) → AreEntries others (length others) entries.now → NamesFirst (IsItemBehind others item.now) result }
+    ensures { (others : List Named) → AreEntries others (length others) entries.now
+        → NamesFirst (IsItemBehind others item.now) result }
 {
     match entry_at(entries, item.scope, item.name) {
         Some(entry) => {
@@ -41,7 +42,8 @@ fn behind(entries: &IndexMap<(u32, &[u8]), Entry>, item: &Named) -> Option<Place
 
 /// The first place of an item that stands behind an entry's. No memory.
 pub fn first_behind(entries: &IndexMap<(u32, &[u8]), Entry>, items: &[Named]) -> Option<Place>
-    ensures { (others : List Named) → AreEntries others (length others) entries.now → NamesFirst (IsBehindBelow items.now others (length items.now)) result }
+    ensures { (others : List Named) → AreEntries others (length others) entries.now
+        → NamesFirst (IsBehindBelow items.now others (length items.now)) result }
 {
     let mut first = None;
     for k in 0..items.len() {

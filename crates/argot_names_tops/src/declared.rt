@@ -21,7 +21,8 @@ fn declared_in<'a>(
     files: &[Option<FileNames<'a>>],
     file: u32,
 ) -> Result<Vec<Named<'a>>, Memory>
-    ensures { (h : SourceFiles) (main : List ℕ) → IsReach h main reached.now → AreFiles h reached.now files.now → IfOk result (λ v. AreDeclaredIn h (homes_of h reached.now) file v.items) }
+    ensures { (h : SourceFiles) (main : List ℕ) → IsReach h main reached.now → AreFiles h reached.now files.now
+        → IfOk result (λ v. AreDeclaredIn h (homes_of h reached.now) file v.items) }
 {
     let Some(number) = package_of(reached, file) else {
         return Ok(Vec::new(alloc));
@@ -45,7 +46,8 @@ pub fn declared_tops<'a>(
     reached: &Reached,
     files: &[Option<FileNames<'a>>],
 ) -> Result<Vec<Named<'a>>, Memory>
-    ensures { (h : SourceFiles) (main : List ℕ) → IsReach h main reached.now → AreFiles h reached.now files.now → IfOk result (λ v. AreDeclared h (homes_of h reached.now) v.items) }
+    ensures { (h : SourceFiles) (main : List ℕ) → IsReach h main reached.now → AreFiles h reached.now files.now
+        → IfOk result (λ v. AreDeclared h (homes_of h reached.now) v.items) }
 {
     let Ok(count) = u32::try_from(files.len()) else {
         return Err(Memory);

@@ -6,8 +6,8 @@ ghost use Rattle.argot_names_tops.specs.TopNames.{IsScopedTop, GivesTop};
 ghost use Rattle.argot_names_tops.specs.declared.named.Named.{Named};
 
 use crate::named::Named;
-use crate::place::Place;
 use crate::texts::{has_scope, is_blank, start_of};
+use argot_files::Place;
 use argot_names_blocks::TopName;
 use argot_names_scopes::spelled_at;
 use argot_text::Memory;
@@ -65,7 +65,8 @@ pub fn scoped_tops<'a>(
     file: u32,
     tops: &[TopName],
 ) -> Result<Vec<Named<'a>>, Memory>
-    ensures { IfOk result (λ v. AreCollected (GivesTop bytes.now tokens.now scope file) tops.now (length tops.now) v.items) }
+    ensures { IfOk result (λ v. AreCollected (GivesTop bytes.now tokens.now scope file) tops.now
+        (length tops.now) v.items) }
 {
     let mut out = Vec::new(alloc);
     for k in 0..tops.len() {

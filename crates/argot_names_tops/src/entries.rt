@@ -4,7 +4,7 @@ ghost use Rattle.argot_names_tops.specs.Entries.{found_at, entry_with, noted, Ar
 ghost use Rattle.argot_names_tops.specs.declared.named.Named.{Named};
 
 use crate::named::Named;
-use crate::place::{Place, is_before};
+use argot_files::{Place, is_before};
 use argot_text::Memory;
 use indexmap::IndexMap;
 use std::alloc::Global;
@@ -52,7 +52,8 @@ fn note<'a>(
     item: &Named<'a>,
     number: usize,
 ) -> Result<(), Memory>
-    ensures { OnOk result ((scope : ℕ) (name : List ℕ) → found_at entries.new scope name ≡ noted (found_at entries.old scope name) item.now number scope name) }
+    ensures { OnOk result ((scope : ℕ) (name : List ℕ) → found_at entries.new scope name ≡ noted
+        (found_at entries.old scope name) item.now number scope name) }
 {
     let old = entry_at(entries, item.scope, item.name);
     let new = entry_with(old, number, item.place);
@@ -101,8 +102,10 @@ pub fn first_item<'i, 'a>(
     scope: u32,
     name: &[u8],
 ) -> Option<&'i Named<'a>>
-    ensures some { AreEntries items.now (length items.now) entries.now → IfSome result (λ n. IsFirstItem items.now scope name.now n.now) }
-    ensures none { AreEntries items.now (length items.now) entries.now → IfNone result ((k : ℕ) (n : Named) → IsAt items.now scope name.now k n → ⊥) }
+    ensures some { AreEntries items.now (length items.now) entries.now
+        → IfSome result (λ n. IsFirstItem items.now scope name.now n.now) }
+    ensures none { AreEntries items.now (length items.now) entries.now
+        → IfNone result ((k : ℕ) (n : Named) → IsAt items.now scope name.now k n → ⊥) }
 {
     match entry_at(entries, scope, name) {
         Some(entry) => item_of(items, entry.first),

@@ -11,8 +11,8 @@ ghost use Rattle.argot_names_tops.specs.Importing.{AreImportNames};
 use crate::declared_names::push_some;
 use crate::imported_names::import_name;
 use crate::named::Named;
-use crate::place::Place;
 use crate::texts::{is_blank, start_of};
+use argot_files::Place;
 use argot_names_imports::{Reached, bytes_at, import_at, package_of, tokens_at};
 use argot_text::{Memory, Sources};
 use argot_tree::{Lexed, Token};
@@ -49,8 +49,14 @@ fn import_named<'a>(
     k: usize,
 ) -> Option<Named<'a>>
     requires { k < length reached.now.survey.imports.items }
-    ensures some { (trees : List Tree) (main : List ℕ) (w : Written) → IsReach (handed sources.now lexed.now trees) main reached.now → slice_get reached.now.survey.imports.items k ≡ Some w → IfSome result (GivesImport (handed sources.now lexed.now trees) reached.now k w) }
-    ensures none { (trees : List Tree) (main : List ℕ) (w : Written) (n : Named) → IsReach (handed sources.now lexed.now trees) main reached.now → slice_get reached.now.survey.imports.items k ≡ Some w → IfNone result (GivesImport (handed sources.now lexed.now trees) reached.now k w n → ⊥) }
+    ensures some { (trees : List Tree) (main : List ℕ) (w : Written)
+        → IsReach (handed sources.now lexed.now trees) main reached.now
+        → slice_get reached.now.survey.imports.items k ≡ Some w
+        → IfSome result (GivesImport (handed sources.now lexed.now trees) reached.now k w) }
+    ensures none { (trees : List Tree) (main : List ℕ) (w : Written) (n : Named)
+        → IsReach (handed sources.now lexed.now trees) main reached.now
+        → slice_get reached.now.survey.imports.items k ≡ Some w
+        → IfNone result (GivesImport (handed sources.now lexed.now trees) reached.now k w n → ⊥) }
 {
     let import = import_at(&reached.survey.imports, k);
     let tokens = tokens_at(lexed, import.file);
@@ -72,7 +78,8 @@ pub fn imported_names<'a>(
     lexed: &'a [Lexed],
     reached: &'a Reached,
 ) -> Result<Vec<Named<'a>>, Memory>
-    ensures { (trees : List Tree) (main : List ℕ) → IsReach (handed sources.now lexed.now trees) main reached.now → IfOk result (λ v. AreImportNames (handed sources.now lexed.now trees) reached.now v.items) }
+    ensures { (trees : List Tree) (main : List ℕ) → IsReach (handed sources.now lexed.now trees) main reached.now
+        → IfOk result (λ v. AreImportNames (handed sources.now lexed.now trees) reached.now v.items) }
 {
     let mut out = Vec::new(alloc);
     for k in 0..reached.survey.imports.len() {

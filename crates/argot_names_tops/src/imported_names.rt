@@ -54,8 +54,11 @@ fn name_of(is: &Package) -> &[u8]
 
 // The name that an import has by what it finds.
 fn found_name<'a>(reached: &'a Reached, k: usize, import: &'a Written) -> Option<&'a [u8]>
-    ensures some { (h : SourceFiles) (main : List ℕ) (f : SourceFile) → IsReach h main reached.now → IsImportAt h reached.now k import.now → IfSome result (λ name. Imported h f import.now.path Unnamed name.now) }
-    ensures none { (h : SourceFiles) (main : List ℕ) (f : SourceFile) (name : List ℕ) → IsReach h main reached.now → IsImportAt h reached.now k import.now → IfNone result (Imported h f import.now.path Unnamed name → ⊥) }
+    ensures some { (h : SourceFiles) (main : List ℕ) (f : SourceFile) → IsReach h main reached.now
+        → IsImportAt h reached.now k import.now
+        → IfSome result (λ name. Imported h f import.now.path Unnamed name.now) }
+    ensures none { (h : SourceFiles) (main : List ℕ) (f : SourceFile) (name : List ℕ) → IsReach h main reached.now
+        → IsImportAt h reached.now k import.now → IfNone result (Imported h f import.now.path Unnamed name → ⊥) }
 {
     match target_number(reached, k) {
         Some(number) => match package_of_number(&reached.packages, number as usize) {
@@ -80,8 +83,12 @@ pub fn import_name<'a>(
     bytes: &'a [u8],
     tokens: &[Token],
 ) -> Option<&'a [u8]>
-    ensures some { (h : SourceFiles) (main : List ℕ) → IsReach h main reached.now → IsImportAt h reached.now k import.now → IfSome result (λ name. Imported h (written_in bytes.now tokens.now) import.now.path import.now.alias name.now) }
-    ensures none { (h : SourceFiles) (main : List ℕ) (name : List ℕ) → IsReach h main reached.now → IsImportAt h reached.now k import.now → IfNone result (Imported h (written_in bytes.now tokens.now) import.now.path import.now.alias name → ⊥) }
+    ensures some { (h : SourceFiles) (main : List ℕ) → IsReach h main reached.now
+        → IsImportAt h reached.now k import.now
+        → IfSome result (λ name. Imported h (written_in bytes.now tokens.now) import.now.path import.now.alias name.now) }
+    ensures none { (h : SourceFiles) (main : List ℕ) (name : List ℕ) → IsReach h main reached.now
+        → IsImportAt h reached.now k import.now
+        → IfNone result (Imported h (written_in bytes.now tokens.now) import.now.path import.now.alias name → ⊥) }
 {
     match import.alias {
         Alias::Named(token) => Some(spelled_at(bytes, tokens, token)),

@@ -37,7 +37,9 @@ pub fn meaning_of(
     name: &[u8],
 ) -> Meaning
     requires { AreNames names.now }
-    ensures { (h : SourceFiles) (main : List ℕ) (r : Reached) (home : PackageKey) → AreTops h main r tops.now → IsNamesOf h file names.now → slice_get (homes_of h r) «package» ≡ Some home → IsReachedFile h main home file → IsMeaning h r home file token name.now result }
+    ensures { (h : SourceFiles) (main : List ℕ) (r : Reached) (home : PackageKey) → AreTops h main r tops.now
+        → IsNamesOf h file names.now → slice_get (homes_of h r) «package» ≡ Some home
+        → IsReachedFile h main home file → IsMeaning h r home file token name.now result }
 {
     if let Some(local) = meant_at(names, token, name) {
         return Meaning::Local(local.node);

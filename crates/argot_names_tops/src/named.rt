@@ -1,7 +1,7 @@
 // Names that scopes declare.
 ghost use Rattle.std.specs.Prelude.{◌≡◌};
 
-use crate::place::Place;
+use argot_files::Place;
 
 /// A name that a scope declares: the number of the scope, which is a package's or a file's, the name, the place where it
 /// stands, and what it is of: the node of its declaration, or the number of an import.

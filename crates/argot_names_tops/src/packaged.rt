@@ -15,8 +15,10 @@ use std::alloc::Global;
 
 // The item with its file's package as its scope.
 fn packaged<'a>(reached: &Reached, k: usize, item: &Named<'a>) -> Option<Named<'a>>
-    ensures some { (h : SourceFiles) (main : List ℕ) → IsReach h main reached.now → IfSome result (GivesPackaged h reached.now k item.now) }
-    ensures none { (h : SourceFiles) (main : List ℕ) (n : Named) → IsReach h main reached.now → IfNone result (GivesPackaged h reached.now k item.now n → ⊥) }
+    ensures some { (h : SourceFiles) (main : List ℕ) → IsReach h main reached.now
+        → IfSome result (GivesPackaged h reached.now k item.now) }
+    ensures none { (h : SourceFiles) (main : List ℕ) (n : Named) → IsReach h main reached.now
+        → IfNone result (GivesPackaged h reached.now k item.now n → ⊥) }
 {
     match package_of(reached, item.scope) {
         Some(number) => Some(Named {
@@ -35,7 +37,8 @@ pub fn packaged_imports<'a>(
     reached: &Reached,
     imports: &[Named<'a>],
 ) -> Result<Vec<Named<'a>>, Memory>
-    ensures { (h : SourceFiles) (main : List ℕ) → IsReach h main reached.now → IfOk result (λ v. AreCollected (GivesPackaged h reached.now) imports.now (length imports.now) v.items) }
+    ensures { (h : SourceFiles) (main : List ℕ) → IsReach h main reached.now
+        → IfOk result (λ v. AreCollected (GivesPackaged h reached.now) imports.now (length imports.now) v.items) }
 {
     let mut out = Vec::new(alloc);
     for k in 0..imports.len() {

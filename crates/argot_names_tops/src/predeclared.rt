@@ -79,7 +79,8 @@ fn is_same(a: &[u8], b: &[u8]) -> bool
 
 /// The number of a predeclared name; none where the name is none. No memory.
 pub fn predeclared_number(name: &[u8]) -> Option<u32>
-    ensures some { IfSome result (λ n. (slice_get predeclared n ≡ Some name.now) × (is_among name.now predeclared ≡ true)) }
+    ensures some { IfSome result (λ n. (slice_get predeclared n ≡ Some name.now) ×
+        (is_among name.now predeclared ≡ true)) }
     ensures none { IsNone result → is_among name.now predeclared ≡ false }
 {
     for number in 0..COUNT {

@@ -40,8 +40,10 @@ pub struct PackageDecl {
 
 /// The names of a file; none where the file is of no package that is reached. No memory.
 pub fn file_names<'t, 'a>(tops: &'t Tops<'a>, file: u32) -> Option<&'t FileNames<'a>>
-    ensures some { (h : SourceFiles) (main : List ℕ) (r : Reached) → AreTops h main r tops.now → IfSome result (λ n. IsNamesOf h file n.now × ((number : ℕ) × IsOfNumber h r file number)) }
-    ensures none { (h : SourceFiles) (main : List ℕ) (r : Reached) (home : PackageKey) → AreTops h main r tops.now → IfNone result (IsReachedFile h main home file → ⊥) }
+    ensures some { (h : SourceFiles) (main : List ℕ) (r : Reached) → AreTops h main r tops.now
+        → IfSome result (λ n. IsNamesOf h file n.now × ((number : ℕ) × IsOfNumber h r file number)) }
+    ensures none { (h : SourceFiles) (main : List ℕ) (r : Reached) (home : PackageKey) → AreTops h main r tops.now
+        → IfNone result (IsReachedFile h main home file → ⊥) }
 {
     names_at(&tops.files, file as usize)
 }
@@ -49,8 +51,12 @@ pub fn file_names<'t, 'a>(tops: &'t Tops<'a>, file: u32) -> Option<&'t FileNames
 /// The declaration outside functions that the name means in the package of this number; none where the package has none of
 /// it. No memory.
 pub fn top_meant(tops: &Tops, package: u32, name: &[u8]) -> Option<PackageDecl>
-    ensures some { (h : SourceFiles) (main : List ℕ) (r : Reached) (home : PackageKey) → AreTops h main r tops.now → slice_get (homes_of h r) «package» ≡ Some home → IfSome result (λ t. IsFirstTop h home name.now t.file t.node) }
-    ensures none { (h : SourceFiles) (main : List ℕ) (r : Reached) (home : PackageKey) (file node : ℕ) (place : Place) → AreTops h main r tops.now → slice_get (homes_of h r) «package» ≡ Some home → IfNone result (IsTop h home name.now file node place → ⊥) }
+    ensures some { (h : SourceFiles) (main : List ℕ) (r : Reached) (home : PackageKey) → AreTops h main r tops.now
+        → slice_get (homes_of h r) «package» ≡ Some home
+        → IfSome result (λ t. IsFirstTop h home name.now t.file t.node) }
+    ensures none { (h : SourceFiles) (main : List ℕ) (r : Reached) (home : PackageKey) (file node : ℕ) (place : Place)
+        → AreTops h main r tops.now → slice_get (homes_of h r) «package» ≡ Some home
+        → IfNone result (IsTop h home name.now file node place → ⊥) }
 {
     match first_item(&tops.top_entries, &tops.tops, package, name) {
         Some(item) => Some(PackageDecl {
@@ -63,8 +69,12 @@ pub fn top_meant(tops: &Tops, package: u32, name: &[u8]) -> Option<PackageDecl>
 
 /// The number of the import that the name means in the file; none where no import of the file declares it. No memory.
 pub fn import_meant(tops: &Tops, file: u32, name: &[u8]) -> Option<usize>
-    ensures some { (h : SourceFiles) (main : List ℕ) (r : Reached) → AreTops h main r tops.now → IfSome result (IsFirstImport h r file name.now) }
-    ensures none { (h : SourceFiles) (main : List ℕ) (r : Reached) (home : PackageKey) (node : ℕ) (path : List ℕ) (place : Place) → AreTops h main r tops.now → IsReachedFile h main home file → IfNone result (IsImported h file name.now node path place → ⊥) }
+    ensures some { (h : SourceFiles) (main : List ℕ) (r : Reached) → AreTops h main r tops.now
+        → IfSome result (IsFirstImport h r file name.now) }
+    ensures none { (h : SourceFiles) (main : List ℕ) (r : Reached) (home : PackageKey) (node : ℕ)
+        (path : List ℕ) (place : Place)
+        → AreTops h main r tops.now → IsReachedFile h main home file
+        → IfNone result (IsImported h file name.now node path place → ⊥) }
 {
     match first_item(&tops.import_entries, &tops.imports, file, name) {
         Some(item) => Some(item.of),

@@ -30,7 +30,7 @@ use Rattle.argot_names_uses.specs.Packages.{IsImportMeant, IsPackageMeant}
 use Rattle.argot_names_uses.specs.Packages.IsPackageMeant.{some as package_some, nothing as package_none}
 use Rattle.argot_names_uses.specs.Members.{IsImportOf, IsMemberMeant}
 use Rattle.argot_names_uses.specs.Members.IsMemberMeant.{some as member_some, nothing as member_none}
-use Rattle.argot_names_uses.specs.Faults.{IsExactly}
+use Rattle.argot_answers.specs.Answers.{Exactly}
 use Rattle.argot_names_uses.proofs.Faulty.{none_exactly}
 use Rattle.argot_names_uses.specs.Numbers.{IsNumberOf, IsMeantBy, StandsBy, IsExactlyUnless}
 use Rattle.argot_names_uses.proofs.Numbering.{some_is}
@@ -62,7 +62,7 @@ module _ (h : SourceFiles) (home : PackageKey) (decls : List Decl) (file : ℕ) 
           complete = λ x not i. absurd ((lone_means h home file l.node l.token i.meant looked (plain not) i.holds).named (sym e ∙ blank));
         }
 
-    pub lone_exactly : (r : Option ℕ) → (text l.token ≡ codes "_" → ⊥) → (Qualified → ⊥) → IsExactly (IsMeantBy (Means h home file l.token (text l.token)) h decls) r → IsExactlyUnless Qualified (StandsBy h home decls file l.node) r
+    pub lone_exactly : (r : Option ℕ) → (text l.token ≡ codes "_" → ⊥) → (Qualified → ⊥) → Exactly (IsMeantBy (Means h home file l.token (text l.token)) h decls) r → IsExactlyUnless Qualified (StandsBy h home decls file l.node) r
     lone_exactly r named not exactly =
         record {
           sound = λ x f.
@@ -88,7 +88,7 @@ module _ (h : SourceFiles) (home : PackageKey) (decls : List Decl) (file : ℕ) 
         let same : x ≡ d = one_listed (λ (y : QualifiedName). y.node) (IsMemberName n.tree.now.nodes) n.bindings.dotted.items is.names.brings.dotted x d (subst (λ t. IsQualified t token member d.node) (sym is.nodes) other) named refl in
         (ap (λ (y : QualifiedName). y.token) same, ap (λ (y : QualifiedName). y.member) same)
 
-    pub no_package : (r : Reached) (o : Option ℕ) → o ≡ None → IsPackageMeant h r home file d.token o → IsExactly (StandsBy h home decls file d.node) None
+    pub no_package : (r : Reached) (o : Option ℕ) → o ≡ None → IsPackageMeant h r home file d.token o → Exactly (StandsBy h home decls file d.node) None
     no_package r _ e (package_some i) = absurd (cc)
     no_package r _ e (package_none none) =
         none_exactly (StandsBy h home decls file d.node) (λ x i.
@@ -104,7 +104,7 @@ module _ (h : SourceFiles) (home : PackageKey) (decls : List Decl) (file : ℕ) 
           let path : m.path ≡ i.import_.path = i.only m.path (subst (λ t. IsOfPackage h home file t m.path) at.0 m.of_package) in
           (m.other, m.declared, subst (λ p. IsMember h p (text d.member) m.other m.declared) path (subst (λ t. IsMember h m.path (text t) m.other m.declared) at.1 m.is), m.meant_is)
 
-      pub no_member : (o : Option PackageDecl) → o ≡ None → IsMemberMeant h i.import_.path (text d.member) o → IsExactly (StandsBy h home decls file d.node) None
+      pub no_member : (o : Option PackageDecl) → o ≡ None → IsMemberMeant h i.import_.path (text d.member) o → Exactly (StandsBy h home decls file d.node) None
       no_member _ f (member_some m first) = absurd (cc)
       no_member _ f (member_none none) =
           none_exactly (StandsBy h home decls file d.node) (λ x s.
@@ -118,7 +118,7 @@ module _ (h : SourceFiles) (home : PackageKey) (decls : List Decl) (file : ℕ) 
       pub member_there : (o : Option PackageDecl) (top : PackageDecl) → o ≡ Some top → IsMemberMeant h i.import_.path (text d.member) o → (x : TreeNode) × (slice_get (read_of h top.file).nodes top.node ≡ Some x)
       member_there o top f m = let is = member_of o top f m in node_there h top.file top.node _ (declares_top is.top.is)
 
-      pub member_exactly : (o : Option PackageDecl) (top : PackageDecl) (a : Option ℕ) → o ≡ Some top → IsMemberMeant h i.import_.path (text d.member) o → IsExactly (IsNumberOf h decls (Declared top.file top.node)) a → IsExactly (StandsBy h home decls file d.node) a
+      pub member_exactly : (o : Option PackageDecl) (top : PackageDecl) (a : Option ℕ) → o ≡ Some top → IsMemberMeant h i.import_.path (text d.member) o → Exactly (IsNumberOf h decls (Declared top.file top.node)) a → Exactly (StandsBy h home decls file d.node) a
       member_exactly o top a f m exactly =
           let own : IsMember h i.import_.path (text d.member) top.file top.node = member_of o top f m in
           record {
@@ -163,13 +163,13 @@ module _ (h : SourceFiles) (home : PackageKey) (decls : List Decl) (file : ℕ) 
           meant_is = m.meant_is;
         }
 
-    pub not_defined : (b.manner ≡ manners.Defined → ⊥) → IsExactly (StandsBy h home decls file b.node) None
+    pub not_defined : (b.manner ≡ manners.Defined → ⊥) → Exactly (StandsBy h home decls file b.node) None
     not_defined not = none_exactly (StandsBy h home decls file b.node) (λ x i. not (assigned_by i.meant i.holds).defined)
 
-    pub blank_assigned : (name : List ℕ) → name ≡ text b.token → name ≡ codes "_" → IsExactly (StandsBy h home decls file b.node) None
+    pub blank_assigned : (name : List ℕ) → name ≡ text b.token → name ≡ codes "_" → Exactly (StandsBy h home decls file b.node) None
     blank_assigned name e blank = none_exactly (StandsBy h home decls file b.node) (λ x i. (assigned_by i.meant i.holds).named (sym e ∙ blank))
 
-    pub no_first : (HasEarlier (file_of n.bytes.now n.tokens.now n.tree.now.nodes) b.token b.opens → ⊥) → IsExactly (StandsBy h home decls file b.node) None
+    pub no_first : (HasEarlier (file_of n.bytes.now n.tokens.now n.tree.now.nodes) b.token b.opens → ⊥) → Exactly (StandsBy h home decls file b.node) None
     no_first none =
         none_exactly (StandsBy h home decls file b.node) (λ x i.
         let a = assigned_by i.meant i.holds in
@@ -181,7 +181,7 @@ module _ (h : SourceFiles) (home : PackageKey) (decls : List Decl) (file : ℕ) 
         let own : IsFirstOf (read_of h file) b.token b.opens first = subst (λ r. IsFirstOf r b.token b.opens first) same_read is_first in
         brought_there tree own.manner first own.at b.opens own.closes own.from own.brings
 
-    pub first_exactly : (first : ℕ) (a : Option ℕ) (name : List ℕ) → name ≡ text b.token → (name ≡ codes "_" → ⊥) → b.manner ≡ manners.Defined → IsFirstOf (file_of n.bytes.now n.tokens.now n.tree.now.nodes) b.token b.opens first → IsExactly (IsNumberOf h decls (Declared file first)) a → IsExactly (StandsBy h home decls file b.node) a
+    pub first_exactly : (first : ℕ) (a : Option ℕ) (name : List ℕ) → name ≡ text b.token → (name ≡ codes "_" → ⊥) → b.manner ≡ manners.Defined → IsFirstOf (file_of n.bytes.now n.tokens.now n.tree.now.nodes) b.token b.opens first → Exactly (IsNumberOf h decls (Declared file first)) a → Exactly (StandsBy h home decls file b.node) a
     first_exactly first a name e named defined is exactly =
         let own : IsFirstOf (read_of h file) b.token b.opens first = subst (λ r. IsFirstOf r b.token b.opens first) same_read is in
         let brings : Brings tree Defined b.node b.token b.opens b.closes b.from = subst (λ m. Brings tree (manner_of m) b.node b.token b.opens b.closes b.from) defined here in

@@ -13,7 +13,7 @@ use Rattle.argot_names_imports.specs.declared.find.Found.{Found}
 use Rattle.argot_names_imports.specs.declared.find.Found.TheVariants as finds
 use Rattle.argot_names_imports.specs.Found.{IsFound, folder, library, unhanded, left_out, nothing}
 use Rattle.argot_names_blocks.specs.declared.bindings.Lookup.{Lookup}
-use Rattle.argot_names_blocks.specs.declared.lookup.Dotted.{Dotted}
+use Rattle.argot_names_blocks.specs.declared.lookup.QualifiedName.{QualifiedName}
 use Rattle.argot_names_blocks.specs.Listing.{IsSeen}
 use Rattle.argot_names_scopes.specs.declared.file.FileNames.{FileNames}
 use Rattle.argot_names_scopes.specs.Names.{AreNames}
@@ -36,9 +36,10 @@ use Rattle.argot_names_uses.specs.Packages.{StandsAt, IsImportMeant, IsPackageMe
 use Rattle.argot_names_uses.specs.Packages.IsPackageMeant.{some as package_some, nothing as package_none}
 use Rattle.argot_names_uses.specs.Members.{IsImportOf, IsMemberMeant}
 use Rattle.argot_names_uses.specs.Members.IsMemberMeant.{some as member_some, nothing as member_none}
-use Rattle.argot_names_uses.specs.Faults.{IsNothing, IsExactly, IsLoneFault, IsMemberFault}
+use Rattle.argot_answers.specs.Answers.{Exactly}
+use Rattle.argot_names_uses.specs.Faults.{IsNothing, IsLoneFault, IsMemberFault}
 
-pub none_exactly : (Holds : ℕ → Type 0) → ((x : ℕ) → Holds x → ⊥) → IsExactly Holds None
+pub none_exactly : (Holds : ℕ → Type 0) → ((x : ℕ) → Holds x → ⊥) → Exactly Holds None
 none_exactly Holds never = record { sound = λ x e. absurd (cc); complete = λ x p. absurd (never x p) }
 
 means_some : (h : SourceFiles) (home : PackageKey) (file token : ℕ) (name : List ℕ) (d : Declaration) → Means h home file token name d → MeansNothing h home file token name → ⊥
@@ -52,16 +53,16 @@ module _ (h : SourceFiles) (home : PackageKey) (file : ℕ) (n : FileNames) (is 
   text_is token name e = e ∙ ap (λ (g : SourceFile). text_at g token) (file_is h file n is)
 
   module _ (l : Lookup) where
-    pub lone_key : IsSeen n.tree.now.nodes l → l.key ≡ true → IsExactly (IsLoneFault h home file l) None
+    pub lone_key : IsSeen n.tree.now.nodes l → l.key ≡ true → Exactly (IsLoneFault h home file l) None
     lone_key seen e = none_exactly (IsLoneFault h home file l) (λ x p. p.no_key (subst (λ t. IsKey t l.node) is.nodes (seen.key e)))
 
-    pub lone_blank : (name : List ℕ) → name ≡ text_at f l.token → name ≡ codes "_" → IsExactly (IsLoneFault h home file l) None
+    pub lone_blank : (name : List ℕ) → name ≡ text_at f l.token → name ≡ codes "_" → Exactly (IsLoneFault h home file l) None
     lone_blank name e blank = none_exactly (IsLoneFault h home file l) (λ x p. p.named (sym e ∙ blank))
 
-    pub lone_passed : IsPassedOver n.tree.now.nodes l.token → IsExactly (IsLoneFault h home file l) None
+    pub lone_passed : IsPassedOver n.tree.now.nodes l.token → Exactly (IsLoneFault h home file l) None
     lone_passed over = none_exactly (IsLoneFault h home file l) (λ x p. p.heeded (subst (λ t. IsPassedOver t l.token) is.nodes over))
 
-    pub lone_some : (r : Reached) (m : Meaning) → IsMeaning h r home file l.token (text_at f l.token) m → (IsNothing m → ⊥) → IsExactly (IsLoneFault h home file l) None
+    pub lone_some : (r : Reached) (m : Meaning) → IsMeaning h r home file l.token (text_at f l.token) m → (IsNothing m → ⊥) → Exactly (IsLoneFault h home file l) None
     lone_some r m means not = none_exactly (IsLoneFault h home file l) (λ x p. by m means not p.nothing)
       where
         by : (m : Meaning) → IsMeaning h r home file l.token (text_at f l.token) m → (IsNothing m → ⊥) → MeansNothing h home file l.token (text_at f l.token) → ⊥
@@ -72,7 +73,7 @@ module _ (h : SourceFiles) (home : PackageKey) (file : ℕ) (n : FileNames) (is 
         by meanings.Nothing means not none = not refl
 
     pub lone_none : (r : Reached) (m : Meaning) (o : Option ℕ) → IsSeen n.tree.now.nodes l → l.key ≡ false → (text_at f l.token ≡ codes "_" → ⊥) → (IsPassedOver n.tree.now.nodes l.token → ⊥) → IsMeaning h r home file l.token (text_at f l.token) m → IsNothing m → o ≡ start_of (slice_get n.tokens.now l.token)
-        → IsExactly (IsLoneFault h home file l) o
+        → Exactly (IsLoneFault h home file l) o
     lone_none r m o seen key blank over means none begins =
         let start : o ≡ start_of (slice_get f.tokens l.token) = begins ∙ ap (λ ts. start_of (slice_get ts l.token)) is.tokens in
         record {
@@ -87,22 +88,22 @@ module _ (h : SourceFiles) (home : PackageKey) (file : ℕ) (n : FileNames) (is 
           complete = λ x p. start ∙ p.begins;
         }
 
-  module _ (d : Dotted) where
-    pub member_passed : IsPassedOver n.tree.now.nodes d.token → IsExactly (IsMemberFault h home file d) None
+  module _ (d : QualifiedName) where
+    pub member_passed : IsPassedOver n.tree.now.nodes d.token → Exactly (IsMemberFault h home file d) None
     member_passed over = none_exactly (IsMemberFault h home file d) (λ x p. p.heeded (subst (λ t. IsPassedOver t d.token) is.nodes over))
 
-    pub no_package : ((path : List ℕ) → IsOfPackage h home file d.token path → ⊥) → IsExactly (IsMemberFault h home file d) None
+    pub no_package : ((path : List ℕ) → IsOfPackage h home file d.token path → ⊥) → Exactly (IsMemberFault h home file d) None
     no_package none = none_exactly (IsMemberFault h home file d) (λ x p. none p.path p.of_package)
 
-    pub left_out_package : (r : Reached) (number : ℕ) (m : IsImportMeant h r home file d.token number) → IsLeftOut m.import_.path → IsExactly (IsMemberFault h home file d) None
+    pub left_out_package : (r : Reached) (number : ℕ) (m : IsImportMeant h r home file d.token number) → IsLeftOut m.import_.path → Exactly (IsMemberFault h home file d) None
     left_out_package r number m out = none_exactly (IsMemberFault h home file d) (λ x p. p.known (subst IsLeftOut (sym (m.only p.path p.of_package)) out))
 
-    pub has_member : (r : Reached) (number : ℕ) (m : IsImportMeant h r home file d.token number) (top : PackageDecl) → IsMemberMeant h m.import_.path (text_at f d.member) (Some top) → IsExactly (IsMemberFault h home file d) None
+    pub has_member : (r : Reached) (number : ℕ) (m : IsImportMeant h r home file d.token number) (top : PackageDecl) → IsMemberMeant h m.import_.path (text_at f d.member) (Some top) → Exactly (IsMemberFault h home file d) None
     has_member r number m top (member_some member first) =
         none_exactly (IsMemberFault h home file d) (λ x p. p.none top.file top.node (subst (λ q. IsMember h q (text_at f d.member) top.file top.node) (sym (m.only p.path p.of_package)) member))
 
     pub no_member : (r : Reached) (number : ℕ) (m : IsImportMeant h r home file d.token number) (o : Option ℕ) → (IsPassedOver n.tree.now.nodes d.token → ⊥) → (IsLeftOut m.import_.path → ⊥) → IsMemberMeant h m.import_.path (text_at f d.member) None → o ≡ start_of (slice_get n.tokens.now d.member)
-        → IsExactly (IsMemberFault h home file d) o
+        → Exactly (IsMemberFault h home file d) o
     no_member r number m o over known (member_none none) begins =
         let start : o ≡ start_of (slice_get f.tokens d.member) = begins ∙ ap (λ ts. start_of (slice_get ts d.member)) is.tokens in
         record {
@@ -143,9 +144,9 @@ looked_within n names node token (value {last = last} s not) = names.brings.as_l
 looked_within n names node token (type_ {last = last} s) = names.brings.as_long node (record { kind = nodes.TypeName; token = token; last = last; first = s.first; next = s.next }) s.there
 looked_within n names node token (package_ {last = last} s) = names.brings.as_long node (record { kind = nodes.QualifiedType; token = token; last = last; first = s.first; next = s.next }) s.there
 
-module _ (h : SourceFiles) (main : List ℕ) (r : Reached) (home : PackageKey) (tops : Tops) (file : ℕ) (n : FileNames) (at : StandsAt h main r home tops n file) (d : Dotted) where
+module _ (h : SourceFiles) (main : List ℕ) (r : Reached) (home : PackageKey) (tops : Tops) (file : ℕ) (n : FileNames) (at : StandsAt h main r home tops n file) (d : QualifiedName) where
   abbrev Fault : Option ℕ → Type 0
-  Fault = IsExactly (IsMemberFault h home file d)
+  Fault = Exactly (IsMemberFault h home file d)
 
   pub by_none : IsPackageMeant h r home file d.token None → Fault None
   by_none (package_none none) = no_package h home file n at.names_are d none

@@ -10,15 +10,15 @@ use Rattle.argot_names_rules.specs.declared.package_key.PackageKey.{PackageKey}
 use Rattle.argot_names_rules.specs.Files.{SourceFiles, read_of}
 use Rattle.argot_names_rules.specs.Loaded.{number_of, IsUse}
 use Rattle.argot_names_rules.specs.Uses.{StandsFor}
-use Rattle.argot_names_blocks.specs.Parents.{put}
-use Rattle.argot_names_blocks.proofs.Parenting.{put_kept, put_there, put_long}
+use Rattle.argot_files.specs.Parents.{put}
+use Rattle.argot_files.proofs.Parenting.{put_kept, put_there, put_long}
 use Rattle.argot_names_scopes.specs.declared.file.FileNames.{FileNames}
 use Rattle.argot_names_imports.specs.declared.reached.Reached.{Reached}
 use Rattle.argot_names_imports.specs.Reached.{homes_of}
 use Rattle.argot_names_imports.specs.Numbers.{IsOfNumber}
 use Rattle.argot_names_tops.proofs.TopLists.{one_number}
-use Rattle.argot_names_uses.proofs.Numbered.{tree_of, number_below, one_node}
-use Rattle.argot_names_uses.specs.Faults.{IsExactly}
+use Rattle.argot_names_uses.proofs.NumberedNodes.{tree_of, number_below, one_node}
+use Rattle.argot_answers.specs.Answers.{Exactly}
 use Rattle.argot_names_uses.specs.declared.known.Known.{Known}
 use Rattle.argot_names_uses.specs.Numbers.{StandsBy, IsExactlyUnless}
 use Rattle.argot_names_uses.specs.Known.{IsHere}
@@ -26,7 +26,7 @@ use Rattle.argot_names_uses.specs.UseTables.{noted, use_by, IsFilled, IsAmong}
 use Rattle.argot_names_uses.proofs.Numbering.{some_is}
 use Rattle.argot_names_uses.proofs.NodeMeanings.{stands_there}
 
-pub unless_nothing : (Holds : ℕ → Type 0) (o : Option ℕ) → IsExactly Holds o → IsExactlyUnless ⊥ Holds o
+pub unless_nothing : (Holds : ℕ → Type 0) (o : Option ℕ) → Exactly Holds o → IsExactlyUnless ⊥ Holds o
 unless_nothing Holds o e = record { sound = e.sound; only = λ x y f i. some_is x y (sym f ∙ e.complete y i); complete = λ x not i. e.complete x i }
 
 -- other nodes, where each use of them is one of those that have been gone over

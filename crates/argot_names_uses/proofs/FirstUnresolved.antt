@@ -13,14 +13,15 @@ use Rattle.argot_names_rules.specs.Scopes.{MeansNothing}
 use Rattle.argot_names_rules.specs.Uses.{IsKey, IsLookup, IsQualified, IsOfPackage, IsMember, IsPassedOver}
 use Rattle.argot_names_rules.specs.Faults.{IsUnresolved, lone, member, IsNowhere, Unknown}
 use Rattle.argot_names_blocks.specs.declared.bindings.Lookup.{Lookup}
-use Rattle.argot_names_blocks.specs.declared.lookup.Dotted.{Dotted}
+use Rattle.argot_names_blocks.specs.declared.lookup.QualifiedName.{QualifiedName}
 use Rattle.argot_names_scopes.specs.declared.file.FileNames.{FileNames}
 use Rattle.argot_names_scopes.specs.Again.{start_of, smaller, sooner_of}
 use Rattle.argot_names_imports.proofs.Standing.{reached_home}
 use Rattle.argot_names_imports.specs.declared.reached.Reached.{Reached}
 use Rattle.argot_names_tops.specs.declared.tops.Tops.{Tops}
 use Rattle.argot_names_tops.specs.Tops.{IsNamesOf, AreTops}
-use Rattle.argot_names_uses.specs.Faults.{IsExactly, IsLoneFault, IsMemberFault, IsFirstOf, IsFirstNumber, LoneAt, MemberAt, UnresolvedIn}
+use Rattle.argot_answers.specs.Answers.{Exactly}
+use Rattle.argot_names_uses.specs.Faults.{IsLoneFault, IsMemberFault, IsFirstOf, IsFirstNumber, LoneAt, MemberAt, UnresolvedIn}
 
 some_is : {A : Type 0} (a b : A) → Some a ≡ Some b → a ≡ b
 some_is a b e = cc
@@ -63,7 +64,7 @@ pub first_none : (Holds : ℕ → ℕ → Type 0) → IsFirstOf Holds 0 None
 first_none Holds = record { there = λ x e. absurd (cc); first = λ x y k e l p. absurd (omega (arith, l)); none = λ y k e l p. absurd (omega (arith, l)) }
 
 -- one item more
-pub first_more : (Holds : ℕ → ℕ → Type 0) (k : ℕ) (first o r : Option ℕ) → IsFirstOf Holds k first → IsExactly (Holds k) o → r ≡ sooner_of first o → IsFirstOf Holds (k + 1) r
+pub first_more : (Holds : ℕ → ℕ → Type 0) (k : ℕ) (first o r : Option ℕ) → IsFirstOf Holds k first → Exactly (Holds k) o → r ≡ sooner_of first o → IsFirstOf Holds (k + 1) r
 first_more Holds k first o r h e is = subst (IsFirstOf Holds (k + 1)) (sym is) (more (sooner_is first o))
   where
     more : IsSooner first o (sooner_of first o) → IsFirstOf Holds (k + 1) (sooner_of first o)
@@ -92,18 +93,18 @@ first_more Holds k first o r h e is = subst (IsFirstOf Holds (k + 1)) (sym is) (
         older None q x y j g l p = absurd (h.none y j q l p)
         older (Some z) q x y j g l p = omega (arith, s.before_a x z g q, h.first z y j q l p)
 
-pub lone_at : (h : SourceFiles) (home : PackageKey) (file : ℕ) (looked : List Lookup) (k : ℕ) (l : Lookup) (o : Option ℕ) → slice_get looked k ≡ Some l → IsExactly (IsLoneFault h home file l) o → IsExactly (LoneAt h home file looked k) o
+pub lone_at : (h : SourceFiles) (home : PackageKey) (file : ℕ) (looked : List Lookup) (k : ℕ) (l : Lookup) (o : Option ℕ) → slice_get looked k ≡ Some l → Exactly (IsLoneFault h home file l) o → Exactly (LoneAt h home file looked k) o
 lone_at h home file looked k l o e is =
     record {
       sound = λ x f. (l, e, is.sound x f);
       complete = λ x p. is.complete x (subst (λ (i : Lookup). IsLoneFault h home file i x) (some_is p.0 l (sym p.1 ∙ e)) p.2);
     }
 
-pub member_at : (h : SourceFiles) (home : PackageKey) (file : ℕ) (dotted : List Dotted) (k : ℕ) (d : Dotted) (o : Option ℕ) → slice_get dotted k ≡ Some d → IsExactly (IsMemberFault h home file d) o → IsExactly (MemberAt h home file dotted k) o
+pub member_at : (h : SourceFiles) (home : PackageKey) (file : ℕ) (dotted : List QualifiedName) (k : ℕ) (d : QualifiedName) (o : Option ℕ) → slice_get dotted k ≡ Some d → Exactly (IsMemberFault h home file d) o → Exactly (MemberAt h home file dotted k) o
 member_at h home file dotted k d o e is =
     record {
       sound = λ x f. (d, e, is.sound x f);
-      complete = λ x p. is.complete x (subst (λ (i : Dotted). IsMemberFault h home file i x) (some_is p.0 d (sym p.1 ∙ e)) p.2);
+      complete = λ x p. is.complete x (subst (λ (i : QualifiedName). IsMemberFault h home file i x) (some_is p.0 d (sym p.1 ∙ e)) p.2);
     }
 
 begins_at : (h : SourceFiles) (file token offset : ℕ) (o : Option Token) → slice_get (read_of h file).tokens token ≡ o → start_of o ≡ Some offset → Begins h file token (record { file = file; offset = offset })
@@ -151,7 +152,7 @@ module _ (h : SourceFiles) (main : List ℕ) (home : PackageKey) (file : ℕ) (n
       let none' = subst (λ x. (found declared : ℕ) → IsMember h path (text_at (read_of h x) at) found declared → ⊥) same none in
       let heeded' = subst (λ x. IsPassedOver (read_of h x).nodes token → ⊥) same heeded in
       let begins' = subst (λ x. start_of (slice_get (read_of h x).tokens at) ≡ Some place.offset) same begins in
-      let d : Dotted = record { token = token; member = at; node = node } in
+      let d : QualifiedName = record { token = token; member = at; node = node } in
       let seen = is.names.brings.dotted.complete d (subst (λ t. IsQualified t token at node) (sym is.nodes) dotted') in
       (seen.0, (d, seen.1, record { path = path; of_package = subst (λ x. IsOfPackage h x file token path) (one_home h main other home file r' reached) means'; known = known; none = none'; heeded = heeded'; begins = begins' }))
 

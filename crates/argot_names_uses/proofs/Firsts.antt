@@ -4,7 +4,7 @@ use Rattle.std.specs.Prelude.{IfNone}
 use Rattle.argot_names_rules.specs.Files.{SourceFiles}
 use Rattle.argot_names_rules.specs.Faults.{IsNowhere, Unknown}
 use Rattle.argot_names_imports.specs.declared.reached.Reached.{Reached}
-use Rattle.argot_names_tops.specs.declared.place.Place.{Place as Spot}
+use Rattle.argot_files.specs.declared.place.Place.{Place as Spot}
 use Rattle.argot_names_tops.specs.declared.tops.Tops.{Tops}
 use Rattle.argot_names_tops.specs.Tops.{AreTops}
 use Rattle.argot_names_uses.specs.Faults.{IsFirstNumber, UnresolvedIn}

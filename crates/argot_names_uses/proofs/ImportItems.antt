@@ -12,7 +12,7 @@ use Rattle.argot_names_imports.specs.Reached.{IsReach}
 use Rattle.argot_names_imports.specs.Numbers.{IsOfNumber}
 use Rattle.argot_names_tops.specs.declared.named.Named.{Named}
 use Rattle.argot_names_tops.specs.Importing.{AreImportNames}
-use Rattle.argot_names_tops.specs.Places.{place_of}
+use Rattle.argot_files.specs.Places.{place_of}
 use Rattle.argot_names_tops.proofs.Results.{ok_onto}
 use Rattle.argot_names_tops.proofs.Ordering.{imports_ascend}
 use Rattle.argot_names_tops.proofs.TopLists.{one_number}
@@ -20,7 +20,7 @@ use Rattle.argot_names_uses.specs.declared.item.Item.{Item}
 use Rattle.argot_names_uses.specs.Items.{IsImportIn, IsDeclaredBy, IsMade, HasItem, AreItems, AreGiven}
 use Rattle.argot_names_uses.specs.Givers.{GivesImport}
 use Rattle.argot_names_uses.proofs.NodeClasses.{some_is, import_class}
-use Rattle.argot_names_uses.proofs.Numbered.{less_or}
+use Rattle.argot_names_uses.proofs.NumberedNodes.{less_or}
 use Rattle.argot_names_uses.proofs.Giving.{given_more}
 use Rattle.argot_names_uses.proofs.TopItems.{has_made}
 

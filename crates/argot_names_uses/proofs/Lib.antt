@@ -1,8 +1,8 @@
 pub mod NodeSums
-pub mod Filling
+pub mod FilledNames
 pub mod Giving
 pub mod NodeClasses
-pub mod Numbered
+pub mod NumberedNodes
 pub mod TopItems
 pub mod NewItems
 pub mod ImportItems
@@ -23,6 +23,6 @@ pub mod Keys
 pub mod Filled
 pub mod Gone
 pub mod Reading
-pub mod Files
+pub mod FilledFiles
 pub mod Looking
 pub mod Firsts

@@ -10,7 +10,7 @@ use Rattle.argot_names_rules.specs.Scopes.{Declaration, Predeclared, Declared, B
 use Rattle.argot_names_rules.specs.Scopes.InScope.{everywhere, top, import_, local}
 use Rattle.argot_names_rules.proofs.Meanings.{one_meaning}
 use Rattle.argot_names_uses.proofs.OneName.{node_there}
-use Rattle.argot_names_uses.specs.Faults.{IsExactly}
+use Rattle.argot_answers.specs.Answers.{Exactly}
 use Rattle.argot_names_uses.specs.Numbers.{IsNumberOf, IsMeantBy}
 
 abbrev pub file_in : Declaration → ℕ
@@ -37,12 +37,12 @@ module _ (h : SourceFiles) (home : PackageKey) (file token : ℕ) (name : List �
   means_there other node m = in_scope_there h home file token name (Declared other node) m.block m.in_scope
 
   -- the declaration is the only one
-  pub meant_exactly : (decls : List Decl) (meant : Declaration) (r : Option ℕ) → Means h home file token name meant → IsExactly (IsNumberOf h decls meant) r → IsExactly (IsMeantBy (Means h home file token name) h decls) r
+  pub meant_exactly : (decls : List Decl) (meant : Declaration) (r : Option ℕ) → Means h home file token name meant → Exactly (IsNumberOf h decls meant) r → Exactly (IsMeantBy (Means h home file token name) h decls) r
   meant_exactly decls meant r m e =
       record {
         sound = λ x f. record { meant = meant; holds = m; is = e.sound x f };
         complete = λ x i. e.complete x (subst (λ d. IsNumberOf h decls d x) (one_meaning h home file token name i.meant meant i.holds m) i.is);
       }
 
-  pub nothing_meant : (decls : List Decl) → MeansNothing h home file token name → IsExactly (IsMeantBy (Means h home file token name) h decls) None
+  pub nothing_meant : (decls : List Decl) → MeansNothing h home file token name → Exactly (IsMeantBy (Means h home file token name) h decls) None
   nothing_meant decls none = record { sound = λ x f. absurd (cc); complete = λ x i. absurd (none i.meant i.holds.block i.holds.in_scope) }

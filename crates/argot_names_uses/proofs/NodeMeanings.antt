@@ -15,7 +15,7 @@ use Rattle.argot_names_rules.specs.Uses.IsLookup.{value as looked_value, type_ a
 use Rattle.argot_names_rules.specs.Uses.StandsFor.{value, type_, member, assigned}
 use Rattle.argot_names_imports.proofs.Surveys.{finds_one}
 use Rattle.argot_names_tops.proofs.Ordering.{ordered_all}
-use Rattle.argot_names_uses.proofs.Numbered.{less_or}
+use Rattle.argot_names_uses.proofs.NumberedNodes.{less_or}
 use Rattle.argot_names_uses.proofs.Numbering.{some_is}
 use Rattle.argot_names_uses.proofs.NodeRoles.{HasRole, role_of, one_role, one_token, dotted_role, brings_role, role_there, brought_there}
 

@@ -11,8 +11,8 @@ use Rattle.argot_names_imports.proofs.Lists.{get_two, get_before, get_map, map_g
 use Rattle.argot_names_tops.proofs.Among.{among_at}
 use Rattle.argot_names_tops.proofs.Ordering.{ordered_all}
 use Rattle.argot_names_uses.specs.DeclTables.{IsOfNode}
-use Rattle.argot_names_uses.proofs.Numbered.{less_or}
-use Rattle.argot_names_uses.specs.Faults.{IsExactly}
+use Rattle.argot_names_uses.proofs.NumberedNodes.{less_or}
+use Rattle.argot_answers.specs.Answers.{Exactly}
 use Rattle.argot_names_uses.specs.Numbers.{IsNumberOf}
 
 pub some_is : {A : Type 0} (x y : A) → Some x ≡ Some y → x ≡ y
@@ -77,7 +77,7 @@ module _ (h : SourceFiles) (homes : List PackageKey) (decls : List Decl) (are : 
       ]
 
   -- that of a node, by the table
-  pub node_number_is : (file node : ℕ) (r : Option ℕ) → IfSome r (λ k. IsOfNode decls k (number_of h file node)) → IfNone r ((k : ℕ) → IsOfNode decls k (number_of h file node) → ⊥) → IsExactly (IsNumberOf h decls (Declared file node)) r
+  pub node_number_is : (file node : ℕ) (r : Option ℕ) → IfSome r (λ k. IsOfNode decls k (number_of h file node)) → IfNone r ((k : ℕ) → IsOfNode decls k (number_of h file node) → ⊥) → Exactly (IsNumberOf h decls (Declared file node)) r
   node_number_is file node None there none =
       record { sound = λ x e. absurd (cc); complete = λ x i. absurd (none x (record { item = i.decl; there = i.there; is = i.is })) }
   node_number_is file node (Some k) there none =
@@ -87,7 +87,7 @@ module _ (h : SourceFiles) (homes : List PackageKey) (decls : List Decl) (are : 
       }
 
   -- that of a predeclared name
-  pub predeclared_number_is : (name : List ℕ) (number : ℕ) → slice_get predeclared number ≡ Some name → IsExactly (IsNumberOf h decls (Predeclared name)) (Some number)
+  pub predeclared_number_is : (name : List ℕ) (number : ℕ) → slice_get predeclared number ≡ Some name → Exactly (IsNumberOf h decls (Predeclared name)) (Some number)
   predeclared_number_is name number e =
       record {
         sound = λ x f. subst (IsNumberOf h decls (Predeclared name)) (some_is number x f)

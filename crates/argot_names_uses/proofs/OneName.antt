@@ -16,7 +16,7 @@ use Rattle.argot_names_tops.proofs.Ordering.{ordered_all}
 use Rattle.argot_names_tops.proofs.TopLists.{one_number}
 use Rattle.argot_names_uses.specs.Items.{Claim, Either, IsTopIn, IsNewIn, IsImportIn, IsDeclaredBy}
 use Rattle.argot_names_uses.proofs.NodeClasses.{IsOfClass, some_is, top_class, brings_class, import_class, class_one}
-use Rattle.argot_names_uses.proofs.Numbered.{less_or, one_node}
+use Rattle.argot_names_uses.proofs.NumberedNodes.{less_or, one_node}
 use Rattle.argot_names_uses.proofs.TopItems.{read_is}
 use Rattle.argot_names_uses.proofs.NewItems.{manner_back}
 use Rattle.argot_names_uses.proofs.ImportItems.{one_import}

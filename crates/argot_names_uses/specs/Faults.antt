@@ -7,18 +7,13 @@ use Rattle.argot_names_rules.specs.Faults.{IsUnresolved}
 use Rattle.argot_names_rules.specs.Scopes.{MeansNothing}
 use Rattle.argot_names_rules.specs.Uses.{IsKey, IsOfPackage, IsMember, IsPassedOver}
 use Rattle.argot_names_blocks.specs.declared.bindings.Lookup.{Lookup}
-use Rattle.argot_names_blocks.specs.declared.lookup.Dotted.{Dotted}
+use Rattle.argot_names_blocks.specs.declared.lookup.QualifiedName.{QualifiedName}
 use Rattle.argot_names_scopes.specs.Again.{start_of}
 use Rattle.argot_names_tops.specs.declared.meaning.Meaning.{Meaning}
 use Rattle.argot_names_tops.specs.declared.meaning.Meaning.TheVariants as meanings
 
 abbrev pub IsNothing : Meaning → Type 0
 IsNothing meaning = meaning ≡ meanings.Nothing
-
--- the answer is the number that the claim holds of, where it holds of one
-pub record IsExactly (Holds : ℕ → Type 0) (result : Option ℕ) : Type 0 where
-  pub sound : (x : ℕ) → result ≡ Some x → Holds x
-  pub complete : (x : ℕ) → Holds x → result ≡ Some x
 
 -- no declaration is in scope for the name, which begins at this offset
 pub record IsLoneFault (h : SourceFiles) (home : PackageKey) (file : ℕ) (l : Lookup) (offset : ℕ) : Type 0 where
@@ -29,7 +24,7 @@ pub record IsLoneFault (h : SourceFiles) (home : PackageKey) (file : ℕ) (l : L
   pub begins : start_of (slice_get (read_of h file).tokens l.token) ≡ Some offset
 
 -- the package before the dot doesn't export the member, which begins at this offset
-pub record IsMemberFault (h : SourceFiles) (home : PackageKey) (file : ℕ) (d : Dotted) (offset : ℕ) : Type 0 where
+pub record IsMemberFault (h : SourceFiles) (home : PackageKey) (file : ℕ) (d : QualifiedName) (offset : ℕ) : Type 0 where
   pub path : List ℕ
   pub of_package : IsOfPackage h home file d.token path
   pub known : IsLeftOut path → ⊥
@@ -54,8 +49,8 @@ abbrev pub LoneAt : SourceFiles → PackageKey → ℕ → List Lookup → ℕ �
 LoneAt h home file looked k offset = (l : Lookup) × (slice_get looked k ≡ Some l) × IsLoneFault h home file l offset
 
 -- member k of the list isn't exported
-abbrev pub MemberAt : SourceFiles → PackageKey → ℕ → List Dotted → ℕ → ℕ → Type 0
-MemberAt h home file dotted k offset = (d : Dotted) × (slice_get dotted k ≡ Some d) × IsMemberFault h home file d offset
+abbrev pub MemberAt : SourceFiles → PackageKey → ℕ → List QualifiedName → ℕ → ℕ → Type 0
+MemberAt h home file dotted k offset = (d : QualifiedName) × (slice_get dotted k ≡ Some d) × IsMemberFault h home file d offset
 
 -- a name of the file at this offset isn't resolved
 abbrev pub UnresolvedIn : SourceFiles → List ℕ → (file offset : ℕ) → Type 0

@@ -2,8 +2,8 @@
 use Rattle.std.specs.Prelude.{ℕ, ◌<◌, List, Option, IfSome, IfNone}
 use Rattle.argot_names_rules.specs.Files.{SourceFiles, Place, IsFirst}
 use Rattle.argot_names_rules.specs.Faults.{IsUnresolved}
-use Rattle.argot_names_tops.specs.declared.place.Place.{Place as Spot}
-use Rattle.argot_names_tops.specs.Places.{place_of}
+use Rattle.argot_files.specs.declared.place.Place.{Place as Spot}
+use Rattle.argot_files.specs.Places.{place_of}
 
 -- the first place of all, where one stands in a file before the number
 pub record IsFirstBelow (h : SourceFiles) (main : List ℕ) (count : ℕ) (result : Option Spot) : Type 0 where

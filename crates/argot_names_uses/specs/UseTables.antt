@@ -8,7 +8,7 @@ use Rattle.argot_names_rules.specs.Files.{SourceFiles}
 use Rattle.argot_names_rules.specs.Lists.{IsListOf}
 use Rattle.argot_names_rules.specs.Loaded.{IsUse, count_nodes}
 use Rattle.argot_names_rules.specs.Nodes.{Is}
-use Rattle.argot_names_blocks.specs.Parents.{put}
+use Rattle.argot_files.specs.Parents.{put}
 use Rattle.argot_names_scopes.specs.declared.file.FileNames.{FileNames}
 use Rattle.argot_names_imports.specs.declared.reached.Reached.{Reached}
 use Rattle.argot_names_imports.specs.Reached.{homes_of}

@@ -17,8 +17,11 @@ use argot_names_tops::{Place, file_names};
 // that stands for nothing.
 fn fill_file(known: &Known, file: u32, table: &mut Vec<Option<u32>>) -> Option<u32>
     requires { (h : SourceFiles) × (main : List ℕ) × AreTops h main known.now.reached.now known.now.tops.now }
-    ensures table { (h : SourceFiles) (main : List ℕ) (decls : List Decl) → AreKnown h main decls known.now → IsFilled h known.now.reached.now decls (FilesBefore file) table.old.items → IsFilled h known.now.reached.now decls (FilesBefore (file + 1)) table.new.items }
-    ensures fault { (h : SourceFiles) (main : List ℕ) → AreTops h main known.now.reached.now known.now.tops.now → IsFirstNumber (UnresolvedIn h main file) result }
+    ensures table { (h : SourceFiles) (main : List ℕ) (decls : List Decl) → AreKnown h main decls known.now
+        → IsFilled h known.now.reached.now decls (FilesBefore file) table.old.items
+        → IsFilled h known.now.reached.now decls (FilesBefore (file + 1)) table.new.items }
+    ensures fault { (h : SourceFiles) (main : List ℕ) → AreTops h main known.now.reached.now known.now.tops.now
+        → IsFirstNumber (UnresolvedIn h main file) result }
 {
     let Some(package) = package_of(known.reached, file) else {
         return None;
@@ -31,7 +34,8 @@ fn fill_file(known: &Known, file: u32, table: &mut Vec<Option<u32>>) -> Option<u
 
 // The place that was found in an earlier file, else that in this one.
 fn earlier(first: Option<Place>, file: u32, offset: Option<u32>) -> Option<Place>
-    ensures { (h : SourceFiles) (main : List ℕ) → IsFirstBelow h main file first → IsFirstNumber (UnresolvedIn h main file) offset → IsFirstBelow h main (file + 1) result }
+    ensures { (h : SourceFiles) (main : List ℕ) → IsFirstBelow h main file first
+        → IsFirstNumber (UnresolvedIn h main file) offset → IsFirstBelow h main (file + 1) result }
 {
     match first {
         Some(place) => Some(place),
@@ -45,8 +49,11 @@ fn earlier(first: Option<Place>, file: u32, offset: Option<u32>) -> Option<Place
 /// Puts down what the nodes of the first files stand for; the first place of a name that stands for nothing. No memory.
 pub fn fill_files(known: &Known, files: u32, table: &mut Vec<Option<u32>>) -> Option<Place>
     requires { (h : SourceFiles) × (main : List ℕ) × AreTops h main known.now.reached.now known.now.tops.now }
-    ensures table { (h : SourceFiles) (main : List ℕ) (decls : List Decl) → AreKnown h main decls known.now → IsFilled h known.now.reached.now decls (FilesBefore 0) table.old.items → IsFilled h known.now.reached.now decls (FilesBefore files) table.new.items }
-    ensures first { (h : SourceFiles) (main : List ℕ) → AreTops h main known.now.reached.now known.now.tops.now → IsFirstBelow h main files result }
+    ensures table { (h : SourceFiles) (main : List ℕ) (decls : List Decl) → AreKnown h main decls known.now
+        → IsFilled h known.now.reached.now decls (FilesBefore 0) table.old.items
+        → IsFilled h known.now.reached.now decls (FilesBefore files) table.new.items }
+    ensures first { (h : SourceFiles) (main : List ℕ) → AreTops h main known.now.reached.now known.now.tops.now
+        → IsFirstBelow h main files result }
 {
     let mut first = None;
     for file in 0..files {

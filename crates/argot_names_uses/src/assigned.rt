@@ -6,7 +6,7 @@ ghost use Rattle.argot_names_rules.specs.Files.{SourceFiles};
 ghost use Rattle.argot_names_blocks.specs.Binding.{IsBinding};
 ghost use Rattle.argot_names_blocks.specs.declared.binding.BindingKind.TheVariants as manners;
 ghost use Rattle.argot_names_scopes.specs.Names.{AreNames};
-ghost use Rattle.argot_names_uses.specs.Faults.{IsExactly};
+ghost use Rattle.argot_answers.specs.Answers.{Exactly};
 ghost use Rattle.argot_names_uses.specs.Numbers.{StandsBy};
 ghost use Rattle.argot_names_uses.specs.Known.{IsHere};
 
@@ -33,7 +33,9 @@ pub fn assigned_number(
 ) -> Option<u32>
     requires names { AreNames names.now }
     requires brought { IsBinding names.now.tree.now.nodes brought }
-    ensures { (h : SourceFiles) (main : List ℕ) (home : PackageKey) (decls : List Decl) → IsHere h main home decls known.now names.now «package» file → IsExactly (StandsBy h home decls file brought.node) result }
+    ensures { (h : SourceFiles) (main : List ℕ) (home : PackageKey) (decls : List Decl)
+        → IsHere h main home decls known.now names.now «package» file
+        → Exactly (StandsBy h home decls file brought.node) result }
 {
     if !is_defined(brought.manner) {
         return None;

@@ -69,7 +69,8 @@ fn sum_of(base: u32, node: usize) -> Option<u32>
 
 /// The number of a node of a file. No memory.
 pub fn node_number(bases: &[u32], file: u32, node: usize) -> Option<u32>
-    ensures { (trees : List Tree) (tree : Tree) → AreBases trees bases.now → slice_get trees file ≡ Some tree → node < length tree.nodes → result ≡ Some (count_nodes (take file trees) + node) }
+    ensures { (trees : List Tree) (tree : Tree) → AreBases trees bases.now → slice_get trees file ≡ Some tree
+        → node < length tree.nodes → result ≡ Some (count_nodes (take file trees) + node) }
 {
     match base_at(bases, file) {
         Some(base) => sum_of(base, node),

@@ -46,7 +46,8 @@ pub fn decls_of(
     reached: &Reached,
     tops: &Tops,
 ) -> Result<Vec<Decl>, Memory>
-    ensures { (h : SourceFiles) (main : List ℕ) → h.trees ≡ trees.now → AreTops h main reached.now tops.now → IfOk result (λ v. AreDecls h (homes_of h reached.now) v.items) }
+    ensures { (h : SourceFiles) (main : List ℕ) → h.trees ≡ trees.now → AreTops h main reached.now tops.now
+        → IfOk result (λ v. AreDecls h (homes_of h reached.now) v.items) }
 {
     let bases = node_bases(alloc, trees)?;
     let items = all_items(alloc, &bases, reached, tops)?;

@@ -12,9 +12,10 @@ ghost use Rattle.argot_names_tops.specs.declared.tops.Tops.{Tops};
 ghost use Rattle.argot_names_tops.specs.Meanings.{IsMeaning};
 ghost use Rattle.argot_names_uses.specs.Packages.{StandsAt, IsPackageMeant};
 ghost use Rattle.argot_names_uses.specs.Members.{IsImportOf, IsMemberMeant};
-ghost use Rattle.argot_names_uses.specs.Faults.{IsNothing, IsExactly, IsLoneFault, IsMemberFault};
+ghost use Rattle.argot_answers.specs.Answers.{Exactly};
+ghost use Rattle.argot_names_uses.specs.Faults.{IsNothing, IsLoneFault, IsMemberFault};
 
-use argot_names_blocks::{Dotted, Lookup};
+use argot_names_blocks::{Lookup, QualifiedName};
 use argot_names_imports::{Found, Reached};
 use argot_names_scopes::{FileNames, is_passed_over, spelled_at};
 use argot_names_tops::{Meaning, PackageDecl};
@@ -62,7 +63,10 @@ fn is_left_out(founds: &[Found], import: usize) -> bool
 pub fn lone_fault(names: &FileNames, looked: Lookup, meaning: Meaning) -> Option<u32>
     requires names { AreNames names.now }
     requires seen { IsSeen names.now.tree.now.nodes looked }
-    ensures { (h : SourceFiles) (main : List ℕ) (r : Reached) (home : PackageKey) (tops : Tops) (file : ℕ) → StandsAt h main r home tops names.now file → IsMeaning h r home file looked.token (text_at (read_of h file) looked.token) meaning → IsExactly (IsLoneFault h home file looked) result }
+    ensures { (h : SourceFiles) (main : List ℕ) (r : Reached) (home : PackageKey) (tops : Tops) (file : ℕ)
+        → StandsAt h main r home tops names.now file
+        → IsMeaning h r home file looked.token (text_at (read_of h file) looked.token) meaning
+        → Exactly (IsLoneFault h home file looked) result }
 {
     if !is_nothing(meaning) {
         return None;
@@ -86,13 +90,18 @@ pub fn lone_fault(names: &FileNames, looked: Lookup, meaning: Meaning) -> Option
 pub fn member_fault(
     reached: &Reached,
     names: &FileNames,
-    dotted: Dotted,
+    dotted: QualifiedName,
     import: Option<usize>,
     member: Option<PackageDecl>,
 ) -> Option<u32>
     requires names { AreNames names.now }
     requires token { dotted.token < length names.now.bindings.generics.items }
-    ensures { (h : SourceFiles) (main : List ℕ) (home : PackageKey) (tops : Tops) (file : ℕ) → StandsAt h main reached.now home tops names.now file → IsPackageMeant h reached.now home file dotted.token import → ((number : ℕ) (w : Written) → import ≡ Some number → IsImportOf h main reached.now number w → IsMemberMeant h w.path (text_at (read_of h file) dotted.member) member) → IsExactly (IsMemberFault h home file dotted) result }
+    ensures { (h : SourceFiles) (main : List ℕ) (home : PackageKey) (tops : Tops) (file : ℕ)
+        → StandsAt h main reached.now home tops names.now file
+        → IsPackageMeant h reached.now home file dotted.token import
+        → ((number : ℕ) (w : Written) → import ≡ Some number → IsImportOf h main reached.now number w
+        → IsMemberMeant h w.path (text_at (read_of h file) dotted.member) member)
+        → Exactly (IsMemberFault h home file dotted) result }
 {
     if is_passed_over(names, dotted.token) {
         return None;

@@ -27,7 +27,9 @@ fn own_items<'a>(
     owner: u32,
     file: u32,
 ) -> Result<Vec<Item<'a>>, Memory>
-    ensures { (h : SourceFiles) (main : List ℕ) (r : Reached) → AreBases h.trees bases.now → IsNamesOf h file names.now → IsReach h main r → IsOfNumber h r file owner → IfOk result (λ v. AreItems h r (OfFile file (NamesIn h)) v.items) }
+    ensures { (h : SourceFiles) (main : List ℕ) (r : Reached) → AreBases h.trees bases.now
+        → IsNamesOf h file names.now → IsReach h main r → IsOfNumber h r file owner
+        → IfOk result (λ v. AreItems h r (OfFile file (NamesIn h)) v.items) }
 {
     let mut items = top_items(alloc, bases, names, owner, file)?;
     let mut news = new_items(alloc, bases, names, owner, file)?;
@@ -43,7 +45,8 @@ fn file_items<'a>(
     tops: &Tops<'a>,
     file: u32,
 ) -> Result<Vec<Item<'a>>, Memory>
-    ensures { (h : SourceFiles) (main : List ℕ) → AreBases h.trees bases.now → AreTops h main reached.now tops.now → IfOk result (λ v. AreItems h reached.now (OfFile file (NamesIn h)) v.items) }
+    ensures { (h : SourceFiles) (main : List ℕ) → AreBases h.trees bases.now → AreTops h main reached.now tops.now
+        → IfOk result (λ v. AreItems h reached.now (OfFile file (NamesIn h)) v.items) }
 {
     let Some(owner) = package_of(reached, file) else {
         return Ok(Vec::new(alloc));
@@ -61,7 +64,8 @@ pub fn all_items<'a>(
     reached: &Reached,
     tops: &Tops<'a>,
 ) -> Result<Vec<Item<'a>>, Memory>
-    ensures { (h : SourceFiles) (main : List ℕ) → AreBases h.trees bases.now → AreTops h main reached.now tops.now → IfOk result (λ v. AreItems h reached.now (Declares h) v.items) }
+    ensures { (h : SourceFiles) (main : List ℕ) → AreBases h.trees bases.now → AreTops h main reached.now tops.now
+        → IfOk result (λ v. AreItems h reached.now (Declares h) v.items) }
 {
     let Ok(count) = u32::try_from(tops.files.len()) else {
         return Err(Memory);

@@ -4,7 +4,8 @@ ghost use Rattle.argot_typed.specs.declared.program.Decl.{Decl};
 ghost use Rattle.argot_names_rules.specs.declared.package_key.PackageKey.{PackageKey};
 ghost use Rattle.argot_names_rules.specs.Files.{SourceFiles};
 ghost use Rattle.argot_names_scopes.specs.Names.{AreNames};
-ghost use Rattle.argot_names_uses.specs.Faults.{IsExactly, IsFirstOf, IsFirstNumber, LoneAt, MemberAt, UnresolvedIn};
+ghost use Rattle.argot_answers.specs.Answers.{Exactly};
+ghost use Rattle.argot_names_uses.specs.Faults.{IsFirstOf, IsFirstNumber, LoneAt, MemberAt, UnresolvedIn};
 ghost use Rattle.argot_names_uses.specs.Known.{IsIn, IsHere};
 ghost use Rattle.argot_names_uses.specs.UseTables.{IsFilled, FilesBefore, Seen};
 
@@ -53,8 +54,13 @@ fn fill_lone(
 ) -> Option<u32>
     requires names { AreNames names.now }
     requires item { k < length names.now.bindings.looked.items }
-    ensures table { (h : SourceFiles) (main : List ℕ) (home : PackageKey) (decls : List Decl) → IsHere h main home decls known.now names.now «package» file → IsFilled h known.now.reached.now decls (Seen names.now file k 0 0) table.old.items → IsFilled h known.now.reached.now decls (Seen names.now file (k + 1) 0 0) table.new.items }
-    ensures fault { (h : SourceFiles) (main : List ℕ) (home : PackageKey) → IsIn h main home known.now names.now «package» file → IsExactly (LoneAt h home file names.now.bindings.looked.items k) result }
+    ensures table { (h : SourceFiles) (main : List ℕ) (home : PackageKey) (decls : List Decl)
+        → IsHere h main home decls known.now names.now «package» file
+        → IsFilled h known.now.reached.now decls (Seen names.now file k 0 0) table.old.items
+        → IsFilled h known.now.reached.now decls (Seen names.now file (k + 1) 0 0) table.new.items }
+    ensures fault { (h : SourceFiles) (main : List ℕ) (home : PackageKey)
+        → IsIn h main home known.now names.now «package» file
+        → Exactly (LoneAt h home file names.now.bindings.looked.items k) result }
 {
     let looked = looked_at(&names.bindings.looked, k);
     let name = spelled_at(names.bytes, names.tokens, looked.token);
@@ -78,8 +84,13 @@ fn fill_member(
 ) -> Option<u32>
     requires names { AreNames names.now }
     requires item { k < length names.now.bindings.dotted.items }
-    ensures table { (h : SourceFiles) (main : List ℕ) (home : PackageKey) (decls : List Decl) (lone : ℕ) → IsHere h main home decls known.now names.now «package» file → IsFilled h known.now.reached.now decls (Seen names.now file lone k 0) table.old.items → IsFilled h known.now.reached.now decls (Seen names.now file lone (k + 1) 0) table.new.items }
-    ensures fault { (h : SourceFiles) (main : List ℕ) (home : PackageKey) → IsIn h main home known.now names.now «package» file → IsExactly (MemberAt h home file names.now.bindings.dotted.items k) result }
+    ensures table { (h : SourceFiles) (main : List ℕ) (home : PackageKey) (decls : List Decl) (lone : ℕ)
+        → IsHere h main home decls known.now names.now «package» file
+        → IsFilled h known.now.reached.now decls (Seen names.now file lone k 0) table.old.items
+        → IsFilled h known.now.reached.now decls (Seen names.now file lone (k + 1) 0) table.new.items }
+    ensures fault { (h : SourceFiles) (main : List ℕ) (home : PackageKey)
+        → IsIn h main home known.now names.now «package» file
+        → Exactly (MemberAt h home file names.now.bindings.dotted.items k) result }
 {
     let dotted = dotted_at(&names.bindings.dotted, k);
     let import = package_meant(known.tops, names, file, dotted.token);
@@ -100,7 +111,10 @@ fn fill_assigned(
 )
     requires names { AreNames names.now }
     requires item { k < length names.now.bindings.brought.items }
-    ensures { (h : SourceFiles) (main : List ℕ) (home : PackageKey) (decls : List Decl) (lone members : ℕ) → IsHere h main home decls known.now names.now «package» file → IsFilled h known.now.reached.now decls (Seen names.now file lone members k) table.old.items → IsFilled h known.now.reached.now decls (Seen names.now file lone members (k + 1)) table.new.items }
+    ensures { (h : SourceFiles) (main : List ℕ) (home : PackageKey) (decls : List Decl) (lone members : ℕ)
+        → IsHere h main home decls known.now names.now «package» file
+        → IsFilled h known.now.reached.now decls (Seen names.now file lone members k) table.old.items
+        → IsFilled h known.now.reached.now decls (Seen names.now file lone members (k + 1)) table.new.items }
 {
     let brought = brought_at(&names.bindings.brought, k);
     let decl = assigned_number(known, names, package, file, brought);
@@ -116,8 +130,15 @@ fn fill_lones(
     table: &mut Vec<Option<u32>>,
 ) -> Option<u32>
     requires names { AreNames names.now }
-    ensures table { (h : SourceFiles) (main : List ℕ) (home : PackageKey) (decls : List Decl) → IsHere h main home decls known.now names.now «package» file → IsFilled h known.now.reached.now decls (Seen names.now file 0 0 0) table.old.items → IsFilled h known.now.reached.now decls (Seen names.now file (length names.now.bindings.looked.items) 0 0) table.new.items }
-    ensures fault { (h : SourceFiles) (main : List ℕ) (home : PackageKey) → IsIn h main home known.now names.now «package» file → IsFirstOf (LoneAt h home file names.now.bindings.looked.items) (length names.now.bindings.looked.items) result }
+    ensures table { (h : SourceFiles) (main : List ℕ) (home : PackageKey) (decls : List Decl)
+        → IsHere h main home decls known.now names.now «package» file
+        → IsFilled h known.now.reached.now decls (Seen names.now file 0 0 0) table.old.items
+        → IsFilled h known.now.reached.now decls (Seen names.now file
+        (length names.now.bindings.looked.items) 0 0) table.new.items }
+    ensures fault { (h : SourceFiles) (main : List ℕ) (home : PackageKey)
+        → IsIn h main home known.now names.now «package» file
+        → IsFirstOf (LoneAt h home file names.now.bindings.looked.items)
+        (length names.now.bindings.looked.items) result }
 {
     let mut first = None;
     for k in 0..names.bindings.looked.len() {
@@ -136,8 +157,15 @@ fn fill_members(
     table: &mut Vec<Option<u32>>,
 ) -> Option<u32>
     requires names { AreNames names.now }
-    ensures table { (h : SourceFiles) (main : List ℕ) (home : PackageKey) (decls : List Decl) (lone : ℕ) → IsHere h main home decls known.now names.now «package» file → IsFilled h known.now.reached.now decls (Seen names.now file lone 0 0) table.old.items → IsFilled h known.now.reached.now decls (Seen names.now file lone (length names.now.bindings.dotted.items) 0) table.new.items }
-    ensures fault { (h : SourceFiles) (main : List ℕ) (home : PackageKey) → IsIn h main home known.now names.now «package» file → IsFirstOf (MemberAt h home file names.now.bindings.dotted.items) (length names.now.bindings.dotted.items) result }
+    ensures table { (h : SourceFiles) (main : List ℕ) (home : PackageKey) (decls : List Decl) (lone : ℕ)
+        → IsHere h main home decls known.now names.now «package» file
+        → IsFilled h known.now.reached.now decls (Seen names.now file lone 0 0) table.old.items
+        → IsFilled h known.now.reached.now decls (Seen names.now file lone
+        (length names.now.bindings.dotted.items) 0) table.new.items }
+    ensures fault { (h : SourceFiles) (main : List ℕ) (home : PackageKey)
+        → IsIn h main home known.now names.now «package» file
+        → IsFirstOf (MemberAt h home file names.now.bindings.dotted.items)
+        (length names.now.bindings.dotted.items) result }
 {
     let mut first = None;
     for k in 0..names.bindings.dotted.len() {
@@ -156,7 +184,11 @@ fn fill_all_assigned(
     table: &mut Vec<Option<u32>>,
 )
     requires names { AreNames names.now }
-    ensures { (h : SourceFiles) (main : List ℕ) (home : PackageKey) (decls : List Decl) (lone members : ℕ) → IsHere h main home decls known.now names.now «package» file → IsFilled h known.now.reached.now decls (Seen names.now file lone members 0) table.old.items → IsFilled h known.now.reached.now decls (Seen names.now file lone members (length names.now.bindings.brought.items)) table.new.items }
+    ensures { (h : SourceFiles) (main : List ℕ) (home : PackageKey) (decls : List Decl) (lone members : ℕ)
+        → IsHere h main home decls known.now names.now «package» file
+        → IsFilled h known.now.reached.now decls (Seen names.now file lone members 0) table.old.items
+        → IsFilled h known.now.reached.now decls (Seen names.now file lone members
+        (length names.now.bindings.brought.items)) table.new.items }
 {
     for k in 0..names.bindings.brought.len() {
         fill_assigned(known, names, package, file, k, table);
@@ -173,8 +205,12 @@ pub fn fill_names(
     table: &mut Vec<Option<u32>>,
 ) -> Option<u32>
     requires names { AreNames names.now }
-    ensures table { (h : SourceFiles) (main : List ℕ) (home : PackageKey) (decls : List Decl) → IsHere h main home decls known.now names.now «package» file → IsFilled h known.now.reached.now decls (FilesBefore file) table.old.items → IsFilled h known.now.reached.now decls (FilesBefore (file + 1)) table.new.items }
-    ensures fault { (h : SourceFiles) (main : List ℕ) (home : PackageKey) → IsIn h main home known.now names.now «package» file → IsFirstNumber (UnresolvedIn h main file) result }
+    ensures table { (h : SourceFiles) (main : List ℕ) (home : PackageKey) (decls : List Decl)
+        → IsHere h main home decls known.now names.now «package» file
+        → IsFilled h known.now.reached.now decls (FilesBefore file) table.old.items
+        → IsFilled h known.now.reached.now decls (FilesBefore (file + 1)) table.new.items }
+    ensures fault { (h : SourceFiles) (main : List ℕ) (home : PackageKey)
+        → IsIn h main home known.now names.now «package» file → IsFirstNumber (UnresolvedIn h main file) result }
 {
     let lone = fill_lones(known, names, package, file, table);
     let member = fill_members(known, names, package, file, table);

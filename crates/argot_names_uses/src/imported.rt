@@ -40,7 +40,8 @@ fn import_item<'a>(
     k: usize,
 ) -> Result<Item<'a>, Memory>
     requires { k < length imports.now }
-    ensures { (h : SourceFiles) (main : List ℕ) → AreBases h.trees bases.now → IsReach h main reached.now → AreImportNames h reached.now imports.now → IfOk result (GivesImport h reached.now imports.now k) }
+    ensures { (h : SourceFiles) (main : List ℕ) → AreBases h.trees bases.now → IsReach h main reached.now
+        → AreImportNames h reached.now imports.now → IfOk result (GivesImport h reached.now imports.now k) }
 {
     let named = named_at(imports, k);
     let Some(owner) = package_of(reached, named.scope) else {
@@ -59,7 +60,9 @@ pub fn import_items<'a>(
     reached: &Reached,
     imports: &[Named<'a>],
 ) -> Result<Vec<Item<'a>>, Memory>
-    ensures { (h : SourceFiles) (main : List ℕ) → AreBases h.trees bases.now → IsReach h main reached.now → AreImportNames h reached.now imports.now → IfOk result (λ v. AreItems h reached.now (IsImportIn h) v.items) }
+    ensures { (h : SourceFiles) (main : List ℕ) → AreBases h.trees bases.now → IsReach h main reached.now
+        → AreImportNames h reached.now imports.now
+        → IfOk result (λ v. AreItems h reached.now (IsImportIn h) v.items) }
 {
     let mut items = Vec::new(alloc);
     for k in 0..imports.len() {

@@ -25,7 +25,9 @@ pub fn item_of<'a>(
     node: usize,
     name: &'a [u8],
 ) -> Result<Item<'a>, Memory>
-    ensures { (h : SourceFiles) (n : TreeNode) → AreBases h.trees bases.now → slice_get (read_of h file).nodes node ≡ Some n → IfOk result (IsMade owner (number_of h file node) name.now) }
+    ensures { (h : SourceFiles) (n : TreeNode) → AreBases h.trees bases.now
+        → slice_get (read_of h file).nodes node ≡ Some n
+        → IfOk result (IsMade owner (number_of h file node) name.now) }
 {
     match node_number(bases, file, node) {
         Some(number) => Ok(Item {

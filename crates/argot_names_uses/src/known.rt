@@ -4,7 +4,7 @@ ghost use Rattle.argot_tree.specs.declared.tree.TreeNode.{TreeNode};
 ghost use Rattle.argot_typed.specs.declared.program.Decl.{Decl};
 ghost use Rattle.argot_names_rules.specs.Files.{SourceFiles, read_of};
 ghost use Rattle.argot_names_rules.specs.Scopes.{Declared};
-ghost use Rattle.argot_names_uses.specs.Faults.{IsExactly};
+ghost use Rattle.argot_answers.specs.Answers.{Exactly};
 ghost use Rattle.argot_names_uses.specs.Numbers.{IsNumberOf};
 ghost use Rattle.argot_names_uses.specs.Known.{AreKnown};
 
@@ -25,7 +25,9 @@ pub struct Known<'s, 'a> {
 
 /// The number of the declaration that a node of a file is. No memory.
 pub fn number_at(known: &Known, file: u32, node: usize) -> Option<u32>
-    ensures { (h : SourceFiles) (main : List ℕ) (decls : List Decl) (n : TreeNode) → AreKnown h main decls known.now → slice_get (read_of h file).nodes node ≡ Some n → IsExactly (IsNumberOf h decls (Declared file node)) result }
+    ensures { (h : SourceFiles) (main : List ℕ) (decls : List Decl) (n : TreeNode) → AreKnown h main decls known.now
+        → slice_get (read_of h file).nodes node ≡ Some n
+        → Exactly (IsNumberOf h decls (Declared file node)) result }
 {
     match node_number(known.bases, file, node) {
         Some(number) => decl_number(known.numbers, number),

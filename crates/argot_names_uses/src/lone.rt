@@ -38,7 +38,12 @@ pub fn lone_number(
     meaning: Meaning,
 ) -> Option<u32>
     requires { IsSeen names.now.tree.now.nodes looked }
-    ensures { (h : SourceFiles) (main : List ℕ) (home : PackageKey) (decls : List Decl) → AreKnown h main decls known.now → IsNamesOf h file names.now → text_at (read_of h file) looked.token ≢ codes "_" → IsMeaning h known.now.reached.now home file looked.token (text_at (read_of h file) looked.token) meaning → IsExactlyUnless (Is names.now.tree.now.nodes looked.node nodes.QualifiedType) (StandsBy h home decls file looked.node) result }
+    ensures { (h : SourceFiles) (main : List ℕ) (home : PackageKey) (decls : List Decl)
+        → AreKnown h main decls known.now → IsNamesOf h file names.now
+        → text_at (read_of h file) looked.token ≢ codes "_"
+        → IsMeaning h known.now.reached.now home file looked.token (text_at (read_of h file) looked.token) meaning
+        → IsExactlyUnless (Is names.now.tree.now.nodes looked.node nodes.QualifiedType)
+        (StandsBy h home decls file looked.node) result }
 {
     if is_qualified(names.tree.nodes.as_slice(), looked.node) {
         return None;

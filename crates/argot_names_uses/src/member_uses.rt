@@ -8,7 +8,7 @@ ghost use Rattle.argot_names_blocks.specs.Listing.{IsMemberName};
 ghost use Rattle.argot_names_tops.specs.Tops.{IsNamesOf, AreTops};
 ghost use Rattle.argot_names_uses.specs.Packages.{StandsAt, IsPackageMeant};
 ghost use Rattle.argot_names_uses.specs.Members.{IsImportOf, IsMemberMeant};
-ghost use Rattle.argot_names_uses.specs.Faults.{IsExactly};
+ghost use Rattle.argot_answers.specs.Answers.{Exactly};
 ghost use Rattle.argot_names_uses.specs.Numbers.{StandsBy};
 ghost use Rattle.argot_names_uses.specs.Known.{AreKnown};
 
@@ -26,7 +26,10 @@ pub fn member_of(
     dotted: QualifiedName,
     import: Option<usize>,
 ) -> Option<PackageDecl>
-    ensures { (h : SourceFiles) (main : List ℕ) (file number : ℕ) (import_ : Written) → AreTops h main known.now.reached.now known.now.tops.now → IsNamesOf h file names.now → import ≡ Some number → IsImportOf h main known.now.reached.now number import_ → IsMemberMeant h import_.path (text_at (read_of h file) dotted.member) result }
+    ensures { (h : SourceFiles) (main : List ℕ) (file number : ℕ) (import_ : Written)
+        → AreTops h main known.now.reached.now known.now.tops.now → IsNamesOf h file names.now
+        → import ≡ Some number → IsImportOf h main known.now.reached.now number import_
+        → IsMemberMeant h import_.path (text_at (read_of h file) dotted.member) result }
 {
     match import {
         Some(number) => member_meant(
@@ -49,7 +52,13 @@ pub fn member_number(
     member: Option<PackageDecl>,
 ) -> Option<u32>
     requires { IsMemberName names.now.tree.now.nodes dotted }
-    ensures { (h : SourceFiles) (main : List ℕ) (home : PackageKey) (decls : List Decl) (file : ℕ) → AreKnown h main decls known.now → StandsAt h main known.now.reached.now home known.now.tops.now names.now file → IsPackageMeant h known.now.reached.now home file dotted.token import → ((number : ℕ) (w : Written) → import ≡ Some number → IsImportOf h main known.now.reached.now number w → IsMemberMeant h w.path (text_at (read_of h file) dotted.member) member) → IsExactly (StandsBy h home decls file dotted.node) result }
+    ensures { (h : SourceFiles) (main : List ℕ) (home : PackageKey) (decls : List Decl) (file : ℕ)
+        → AreKnown h main decls known.now
+        → StandsAt h main known.now.reached.now home known.now.tops.now names.now file
+        → IsPackageMeant h known.now.reached.now home file dotted.token import
+        → ((number : ℕ) (w : Written) → import ≡ Some number → IsImportOf h main known.now.reached.now number w
+        → IsMemberMeant h w.path (text_at (read_of h file) dotted.member) member)
+        → Exactly (StandsBy h home decls file dotted.node) result }
 {
     let Some(_) = import else {
         return None;

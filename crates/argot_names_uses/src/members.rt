@@ -17,7 +17,8 @@ pub fn member_meant(
     import: usize,
     name: &[u8],
 ) -> Option<PackageDecl>
-    ensures { (h : SourceFiles) (main : List ℕ) (import_ : Written) → AreTops h main reached.now tops.now → IsImportOf h main reached.now import import_ → IsMemberMeant h import_.path name.now result }
+    ensures { (h : SourceFiles) (main : List ℕ) (import_ : Written) → AreTops h main reached.now tops.now
+        → IsImportOf h main reached.now import import_ → IsMemberMeant h import_.path name.now result }
 {
     if !is_exported(name) {
         return None;

@@ -43,7 +43,8 @@ fn new_item<'a>(
     k: usize,
 ) -> Result<Item<'a>, Memory>
     requires { k < length names.now.bindings.brought.items }
-    ensures { (h : SourceFiles) → AreBases h.trees bases.now → IsNamesOf h file names.now → slice_get names.now.news.items k ≡ Some true → IfOk result (GivesNew h names.now owner file k) }
+    ensures { (h : SourceFiles) → AreBases h.trees bases.now → IsNamesOf h file names.now
+        → slice_get names.now.news.items k ≡ Some true → IfOk result (GivesNew h names.now owner file k) }
 {
     let brought = brought_at(&names.bindings.brought, k);
     let name = spelled_at(names.bytes, names.tokens, brought.token);
@@ -58,7 +59,9 @@ pub fn new_items<'a>(
     owner: u32,
     file: u32,
 ) -> Result<Vec<Item<'a>>, Memory>
-    ensures { (h : SourceFiles) (main : List ℕ) (r : Reached) → AreBases h.trees bases.now → IsNamesOf h file names.now → IsReach h main r → IsOfNumber h r file owner → IfOk result (λ v. AreItems h r (OfFile file (IsNewIn h)) v.items) }
+    ensures { (h : SourceFiles) (main : List ℕ) (r : Reached) → AreBases h.trees bases.now
+        → IsNamesOf h file names.now → IsReach h main r → IsOfNumber h r file owner
+        → IfOk result (λ v. AreItems h r (OfFile file (IsNewIn h)) v.items) }
 {
     let mut items = Vec::new(alloc);
     for k in 0..names.bindings.brought.len() {

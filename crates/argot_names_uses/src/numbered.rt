@@ -1,7 +1,7 @@
 // From a node's number to that of its declaration.
 ghost use Rattle.std.specs.Prelude.{◌≡◌, ◌<◌, ◌↔◌, ℕ, List, Some, IfOk, IfSome, IfNone, length, slice_get};
 ghost use Rattle.argot_typed.specs.declared.program.Decl.{Decl};
-ghost use Rattle.argot_names_blocks.specs.Parents.{put};
+ghost use Rattle.argot_files.specs.Parents.{put};
 ghost use Rattle.argot_names_uses.specs.DeclTables.{IsOfNode, AreDeclNumbers};
 
 use argot_text::Memory;
@@ -53,8 +53,10 @@ pub fn entry_at(table: &[Option<u32>], at: u32) -> Option<u32>
 
 /// The number of the declaration that a node is, by the node's number; none where the node is none. No memory.
 pub fn decl_number(table: &[Option<u32>], node: u32) -> Option<u32>
-    ensures some { (decls : List Decl) (count : ℕ) → AreDeclNumbers decls count table.now → IfSome result (λ k. IsOfNode decls k node) }
-    ensures none { (decls : List Decl) (count : ℕ) → AreDeclNumbers decls count table.now → node < count → IfNone result ((k : ℕ) → IsOfNode decls k node → ⊥) }
+    ensures some { (decls : List Decl) (count : ℕ) → AreDeclNumbers decls count table.now
+        → IfSome result (λ k. IsOfNode decls k node) }
+    ensures none { (decls : List Decl) (count : ℕ) → AreDeclNumbers decls count table.now → node < count
+        → IfNone result ((k : ℕ) → IsOfNode decls k node → ⊥) }
 {
     entry_at(table, node)
 }

@@ -6,7 +6,7 @@ ghost use Rattle.argot_names_rules.specs.Files.{SourceFiles};
 ghost use Rattle.argot_names_rules.specs.Scopes.{Means};
 ghost use Rattle.argot_names_imports.specs.declared.written.Written.{Written};
 ghost use Rattle.argot_names_tops.specs.Meanings.{IsMeaning, MeansImport};
-ghost use Rattle.argot_names_uses.specs.Faults.{IsExactly};
+ghost use Rattle.argot_answers.specs.Answers.{Exactly};
 ghost use Rattle.argot_names_uses.specs.Numbers.{IsMeantBy};
 ghost use Rattle.argot_names_uses.specs.Known.{AreKnown};
 
@@ -26,7 +26,9 @@ fn node_of(imports: &[Written], import: usize) -> Option<usize>
 
 // The number of the declaration that an import of the file is.
 fn import_number(known: &Known, file: u32, import: usize) -> Option<u32>
-    ensures { (h : SourceFiles) (main : List ℕ) (home : PackageKey) (decls : List Decl) (token : ℕ) (name : List ℕ) → AreKnown h main decls known.now → MeansImport h known.now.reached.now home file token name import → IsExactly (IsMeantBy (Means h home file token name) h decls) result }
+    ensures { (h : SourceFiles) (main : List ℕ) (home : PackageKey) (decls : List Decl) (token : ℕ) (name : List ℕ)
+        → AreKnown h main decls known.now → MeansImport h known.now.reached.now home file token name import
+        → Exactly (IsMeantBy (Means h home file token name) h decls) result }
 {
     match node_of(&known.reached.survey.imports, import) {
         Some(node) => number_at(known, file, node),
@@ -36,7 +38,9 @@ fn import_number(known: &Known, file: u32, import: usize) -> Option<u32>
 
 /// The number of the declaration that a name of the file means, where it means one. No memory.
 pub fn meant_number(known: &Known, file: u32, meaning: Meaning) -> Option<u32>
-    ensures { (h : SourceFiles) (main : List ℕ) (home : PackageKey) (decls : List Decl) (token : ℕ) (name : List ℕ) → AreKnown h main decls known.now → IsMeaning h known.now.reached.now home file token name meaning → IsExactly (IsMeantBy (Means h home file token name) h decls) result }
+    ensures { (h : SourceFiles) (main : List ℕ) (home : PackageKey) (decls : List Decl) (token : ℕ) (name : List ℕ)
+        → AreKnown h main decls known.now → IsMeaning h known.now.reached.now home file token name meaning
+        → Exactly (IsMeantBy (Means h home file token name) h decls) result }
 {
     match meaning {
         Meaning::Local(node) => number_at(known, file, node),

@@ -12,7 +12,8 @@ use argot_names_tops::{Tops, import_meant};
 /// The number of the import that the name at the token means in its file; none where it means none. No memory.
 pub fn package_meant(tops: &Tops, names: &FileNames, file: u32, token: u32) -> Option<usize>
     requires { AreNames names.now }
-    ensures { (h : SourceFiles) (main : List ℕ) (r : Reached) (home : PackageKey) → StandsAt h main r home tops.now names.now file → IsPackageMeant h r home file token result }
+    ensures { (h : SourceFiles) (main : List ℕ) (r : Reached) (home : PackageKey)
+        → StandsAt h main r home tops.now names.now file → IsPackageMeant h r home file token result }
 {
     let name = spelled_at(names.bytes, names.tokens, token);
     match meant_at(names, token, name) {

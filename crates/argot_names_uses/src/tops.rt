@@ -33,7 +33,8 @@ fn top_item<'a>(
     k: usize,
 ) -> Result<Item<'a>, Memory>
     requires { k < length names.now.bindings.tops.items }
-    ensures { (h : SourceFiles) → AreBases h.trees bases.now → IsNamesOf h file names.now → IfOk result (GivesTop h names.now owner file k) }
+    ensures { (h : SourceFiles) → AreBases h.trees bases.now → IsNamesOf h file names.now
+        → IfOk result (GivesTop h names.now owner file k) }
 {
     let top = top_at(&names.bindings.tops, k);
     let name = spelled_at(names.bytes, names.tokens, top.token);
@@ -48,7 +49,9 @@ pub fn top_items<'a>(
     owner: u32,
     file: u32,
 ) -> Result<Vec<Item<'a>>, Memory>
-    ensures { (h : SourceFiles) (main : List ℕ) (r : Reached) → AreBases h.trees bases.now → IsNamesOf h file names.now → IsReach h main r → IsOfNumber h r file owner → IfOk result (λ v. AreItems h r (OfFile file (IsTopIn h)) v.items) }
+    ensures { (h : SourceFiles) (main : List ℕ) (r : Reached) → AreBases h.trees bases.now
+        → IsNamesOf h file names.now → IsReach h main r → IsOfNumber h r file owner
+        → IfOk result (λ v. AreItems h r (OfFile file (IsTopIn h)) v.items) }
 {
     let mut items = Vec::new(alloc);
     for k in 0..names.bindings.tops.len() {

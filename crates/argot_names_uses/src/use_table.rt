@@ -24,7 +24,9 @@ pub fn put(table: &mut Vec<Option<u32>>, node: Option<u32>, decl: Option<u32>)
 
 /// The uses of a table of `count` nodes, by node.
 pub fn listed(alloc: Global, table: &[Option<u32>], count: u32) -> Result<Vec<Use>, Memory>
-    ensures { (h : SourceFiles) (homes : List PackageKey) (decls : List Decl) → IsTable h homes decls count table.now → IfOk result (λ v. IsListOf (λ (a b : Use). a.node < b.node) (IsUse h homes decls) v.items) }
+    ensures { (h : SourceFiles) (homes : List PackageKey) (decls : List Decl)
+        → IsTable h homes decls count table.now
+        → IfOk result (λ v. IsListOf (λ (a b : Use). a.node < b.node) (IsUse h homes decls) v.items) }
 {
     let mut uses = Vec::new(alloc);
     for node in 0..count {

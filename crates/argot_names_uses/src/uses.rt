@@ -7,7 +7,7 @@ ghost use Rattle.argot_names_rules.specs.Lists.{IsListOf};
 ghost use Rattle.argot_names_rules.specs.Faults.{IsUnresolved, IsNowhere, Unknown};
 ghost use Rattle.argot_names_rules.specs.Loaded.{AreDecls, IsUse, count_nodes};
 ghost use Rattle.argot_names_imports.specs.Reached.{homes_of};
-ghost use Rattle.argot_names_tops.specs.Places.{place_of};
+ghost use Rattle.argot_files.specs.Places.{place_of};
 ghost use Rattle.argot_names_tops.specs.Tops.{AreTops};
 ghost use Rattle.argot_names_uses.specs.Known.{AreKnown};
 
@@ -34,9 +34,14 @@ pub struct NameUses {
 // The same, where it is known how nodes, of which there are `count`, and declarations are numbered.
 fn uses_in(alloc: Global, known: &Known, count: u32) -> Result<NameUses, Memory>
     requires { (h : SourceFiles) × (main : List ℕ) × AreTops h main known.now.reached.now known.now.tops.now }
-    ensures uses { (h : SourceFiles) (main : List ℕ) (decls : List Decl) → AreKnown h main decls known.now → count ≡ count_nodes h.trees → IfOk result (λ s. IsListOf (λ (a b : Use). a.node < b.node) (IsUse h (homes_of h known.now.reached.now) decls) s.uses.items) }
-    ensures some { (h : SourceFiles) (main : List ℕ) → AreTops h main known.now.reached.now known.now.tops.now → IfOk result (λ s. IfSome s.unresolved (λ p. IsFirst (IsUnresolved h main) (place_of p))) }
-    ensures none { (h : SourceFiles) (main : List ℕ) → AreTops h main known.now.reached.now known.now.tops.now → IfOk result (λ s. IfNone s.unresolved (IsNowhere h main Unknown)) }
+    ensures uses { (h : SourceFiles) (main : List ℕ) (decls : List Decl) → AreKnown h main decls known.now
+        → count ≡ count_nodes h.trees
+        → IfOk result (λ s. IsListOf (λ (a b : Use). a.node < b.node)
+        (IsUse h (homes_of h known.now.reached.now) decls) s.uses.items) }
+    ensures some { (h : SourceFiles) (main : List ℕ) → AreTops h main known.now.reached.now known.now.tops.now
+        → IfOk result (λ s. IfSome s.unresolved (λ p. IsFirst (IsUnresolved h main) (place_of p))) }
+    ensures none { (h : SourceFiles) (main : List ℕ) → AreTops h main known.now.reached.now known.now.tops.now
+        → IfOk result (λ s. IfNone s.unresolved (IsNowhere h main Unknown)) }
 {
     let Ok(files) = u32::try_from(known.tops.files.len()) else {
         return Err(Memory);
@@ -58,9 +63,14 @@ pub fn uses_of(
     decls: &[Decl],
 ) -> Result<NameUses, Memory>
     requires { (h : SourceFiles) × (main : List ℕ) × AreTops h main reached.now tops.now }
-    ensures uses { (h : SourceFiles) (main : List ℕ) → h.trees ≡ trees.now → AreTops h main reached.now tops.now → AreDecls h (homes_of h reached.now) decls.now → IfOk result (λ s. IsListOf (λ (a b : Use). a.node < b.node) (IsUse h (homes_of h reached.now) decls.now) s.uses.items) }
-    ensures some { (h : SourceFiles) (main : List ℕ) → AreTops h main reached.now tops.now → IfOk result (λ s. IfSome s.unresolved (λ p. IsFirst (IsUnresolved h main) (place_of p))) }
-    ensures none { (h : SourceFiles) (main : List ℕ) → AreTops h main reached.now tops.now → IfOk result (λ s. IfNone s.unresolved (IsNowhere h main Unknown)) }
+    ensures uses { (h : SourceFiles) (main : List ℕ) → h.trees ≡ trees.now → AreTops h main reached.now tops.now
+        → AreDecls h (homes_of h reached.now) decls.now
+        → IfOk result (λ s. IsListOf (λ (a b : Use). a.node < b.node)
+        (IsUse h (homes_of h reached.now) decls.now) s.uses.items) }
+    ensures some { (h : SourceFiles) (main : List ℕ) → AreTops h main reached.now tops.now
+        → IfOk result (λ s. IfSome s.unresolved (λ p. IsFirst (IsUnresolved h main) (place_of p))) }
+    ensures none { (h : SourceFiles) (main : List ℕ) → AreTops h main reached.now tops.now
+        → IfOk result (λ s. IfNone s.unresolved (IsNowhere h main Unknown)) }
 {
     let bases = node_bases(alloc, trees)?;
     let count = node_count(&bases);

@@ -1,33 +1,20 @@
-use Rattle.std.proofs.Common.{sym, subst, arith}
+use Rattle.std.proofs.Common.{subst, arith}
 use Rattle.argot_names_blocks.specs.declared.bindings.Lookup.{Lookup}
 use Rattle.argot_names_blocks.specs.declared.binding.Binding.{Binding}
 use Rattle.argot_names_blocks.specs.declared.lookup.QualifiedName.{QualifiedName}
 use Rattle.argot_names_blocks.specs.declared.tops.TopName.{TopName}
 use Rattle.argot_names_blocks.specs.Binding.{IsBinding}
-use Rattle.argot_names_blocks.specs.Forms.{IsFormed}
+use Rattle.argot_names_blocks.specs.Blocks.{AreBlocks}
 use Rattle.argot_names_blocks.specs.Generics.{BeginBefore}
 use Rattle.argot_names_blocks.specs.Listing.{ListsAll, IsSeen, IsMemberName, IsTopDeclared, AreGenerics, TellsDot}
-use Rattle.argot_names_blocks.proofs.Forming.{formed}
 use Rattle.argot_names_blocks.proofs.bindings.bindings_of.Goals as goal
-
-pub parents_of-requires : goal.parents_of-requires
-parents_of-requires c = (formed c.args.tree.now c.requires.0 c.requires.1).links
-
-pub key_children-requires-clause-formed : goal.key_children-requires-clause-formed
-key_children-requires-clause-formed c = formed c.args.tree.now c.requires.0 c.requires.1
-
-pub blocks_of-requires : goal.blocks_of-requires
-blocks_of-requires c = formed c.args.tree.now c.requires.0 c.requires.1
-
-pub list_brought-requires-clause-formed : goal.list_brought-requires-clause-formed
-list_brought-requires-clause-formed c = subst IsFormed (sym c.as_slice-nodes.ensures) (formed c.args.tree.now c.requires.0 c.requires.1)
 
 pub returns : goal.returns
 returns c =
-    let nodes = c.as_slice-nodes.ensures in
-    let begin : BeginBefore c.args.tree.now.nodes c.count_tokens.result = subst (λ ns. BeginBefore ns c.count_tokens.result) nodes c.count_tokens.ensures in
+    let nodes = c.nodes-nodes.ensures.nodes in
+    let begin : BeginBefore c.args.file.now.nodes c.count_tokens.result = subst (λ ns. BeginBefore ns c.count_tokens.result) nodes c.count_tokens.ensures in
     record {
-      blocks = c.in_ok-blocks.ensures;
+      blocks = subst (λ ns. AreBlocks ns c.in_ok-blocks.blocks.items) nodes c.in_ok-blocks.ensures;
       brought = subst (λ ns. ListsAll (λ (x : Binding). x.node) (IsBinding ns) c.in_ok-brought.brought.items) nodes c.in_ok-brought.ensures;
       tops = subst (λ ns. ListsAll (λ (x : TopName). x.node) (IsTopDeclared ns) c.in_ok-tops.tops.items) nodes c.in_ok-tops.ensures;
       looked = subst (λ ns. ListsAll (λ (x : Lookup). x.node) (IsSeen ns) c.in_ok-looked.looked.items) nodes c.in_ok-looked.ensures;

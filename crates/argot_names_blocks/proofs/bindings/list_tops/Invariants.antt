@@ -4,4 +4,4 @@ use Rattle.argot_names_blocks.specs.Listing.{ListsUpTo}
 use Rattle.argot_names_blocks.proofs.bindings.list_tops.Given as goal
 
 abbrev pub invariant-loop-k : goal.invariant-loop-k
-invariant-loop-k l = ListsUpTo (λ (x : TopName). x.node) (IsTopDeclared l.nodes) l.k l.list.items
+invariant-loop-k l = ListsUpTo (λ (x : TopName). x.node) (IsTopDeclared l.t.nodes.now) l.k l.list.items

@@ -1,5 +1,5 @@
 use Rattle.std.proofs.Common.{◌+◌, sym, subst, ◌∙◌}
-use Rattle.argot_names_blocks.proofs.Listed.{some_is}
+use Rattle.argot_files.proofs.Listed.{some_is}
 use Rattle.argot_names_scopes.specs.Again.{IsAgainIn, IsFirstAgain}
 use Rattle.argot_names_scopes.proofs.Repeating.{no_more, more}
 use Rattle.argot_names_scopes.proofs.again.step.Goals as goal

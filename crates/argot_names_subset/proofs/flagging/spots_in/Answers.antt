@@ -24,6 +24,6 @@ returns c = λ main is tables.
     let k = c.args.known.now in
     let h = handed_of k in
     let are : ArePackageKeys h is.homes c.as_slice-packages.result.now = subst (ArePackageKeys h is.homes) (sym c.as_slice-packages.ensures) (homes_are h main c.args.packages.now is) in
-    let table : (q : List ℕ) → HasFolder c.in_ok-folders.folders q ↔ IsFolderOf k.sources.now c.args.packages.now.packages q = subst (λ ps. (q : List ℕ) → HasFolder c.in_ok-folders.folders q ↔ IsFolderOf k.sources.now ps q) c.as_slice-packages.ensures c.in_ok-folders.ensures in
+    let table : (q : List ℕ) → HasFolder c.in_ok-folders.folders q ↔ IsFolderOf k.files.sources.now c.args.packages.now.packages q = subst (λ ps. (q : List ℕ) → HasFolder c.in_ok-folders.folders q ↔ IsFolderOf k.files.sources.now ps q) c.as_slice-packages.ensures c.in_ok-folders.ensures in
     given (λ v. v.items) (HasFeature h main k.entries.now) c.new-spots.result.keys c.note_others.new.spots.keys c.listed.result c.new-spots.ensures.empty c.listed.ensures.items c.listed.ensures.ordered
     (whole_added h main c.args.packages.now is k.entries.now c.in_ok-folders.folders table c.new-spots.result.keys c.note_packages.new.spots.keys c.note_others.new.spots.keys (c.in_ok-note_packages.ensures is.homes tables are) c.in_ok-note_others.ensures)

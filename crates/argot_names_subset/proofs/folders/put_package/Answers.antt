@@ -1,5 +1,5 @@
 use Rattle.std.proofs.Common.{sym}
-use Rattle.argot_names_subset_file.proofs.Exactly.{on_ok_map}
+use Rattle.argot_names_subset_file.proofs.Outcomes.{on_ok_map}
 use Rattle.argot_names_subset.proofs.Foldering.{package_put}
 use Rattle.argot_names_subset.proofs.folders.put_package.Goals as goal
 

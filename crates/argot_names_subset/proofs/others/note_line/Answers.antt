@@ -1,6 +1,6 @@
 use Rattle.std.proofs.Common.{refl, sym, ◌∙◌, subst}
 use Rattle.argot_names_rules.specs.GoMod.{FirstLine}
-use Rattle.argot_names_subset_file.proofs.Exactly.{on_ok_map}
+use Rattle.argot_names_subset_file.proofs.Outcomes.{on_ok_map}
 use Rattle.argot_names_subset.proofs.Othering.{line_added, line_missing}
 use Rattle.argot_names_subset.proofs.others.note_line.Goals as goal
 

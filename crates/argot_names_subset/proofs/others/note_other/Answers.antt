@@ -1,4 +1,4 @@
-use Rattle.argot_names_subset_file.proofs.Exactly.{on_ok_map}
+use Rattle.argot_names_subset_file.proofs.Outcomes.{on_ok_map}
 use Rattle.argot_names_subset.proofs.Othering.{other_added}
 use Rattle.argot_names_subset.proofs.others.note_other.Goals as goal
 

@@ -15,7 +15,7 @@ loop-k-preserved c = λ homes tables are.
     let x = home_at h homes c.args.packages.now c.loop-k.k c.package_at.result.now are c.package_at.ensures in
     let among : In x.0 homes = (c.loop-k.k, x.1) in
     adds_step (IsKeyNumbered h k.entries.now homes) c.loop-k.k c.args.spots.now.keys c.loop-k.spots.keys c.note_package.new.spots.keys (c.loop-k.invariant homes tables are)
-    (home_numbered h k.entries.now homes c.loop-k.k x.0 c.loop-k.spots.keys c.note_package.new.spots.keys x.1 (c.in_ok-note_package.ensures homes x.0 tables among (are.proper x.0 among) x.2))
+    (home_numbered h k.entries.now homes c.loop-k.k x.0 c.loop-k.spots.keys c.note_package.new.spots.keys x.1 (c.in_ok-note_package.ensures homes x.0 (record { tables = tables; among = among; proper = are.proper x.0 among; is_package = x.2 })))
 
 pub returns : goal.returns
 returns c = λ homes tables are.

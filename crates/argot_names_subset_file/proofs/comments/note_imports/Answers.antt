@@ -1,4 +1,8 @@
-use Rattle.std.proofs.Common.{◌≡◌, Some, arith, subst}
+use Rattle.std.proofs.Common.{◌≡◌, ◌<◌, Some, arith, subst}
+use Rattle.argot_names_rules.specs.Files.{SourceFile}
+use Rattle.argot_names_rules.specs.Lists.{IsListOf}
+use Rattle.argot_names_imports.specs.declared.written.Written.{Written}
+use Rattle.argot_names_imports.specs.Written.{IsWritten}
 use Rattle.std.specs.Prelude.{slice_get}
 use Rattle.argot_names_subset_file.specs.Files.{IsImportOut}
 use Rattle.argot_names_subset_file.proofs.Adding.{adds_step}
@@ -14,7 +18,13 @@ loop-k-preserved c =
     let there : slice_get ws c.loop-k.k ≡ Some w = subst (λ xs. slice_get xs c.loop-k.k ≡ Some w) c.deref.ensures.value c.import_at.ensures in
     adds_step (ImportItem v ws) c.loop-k.k c.args.spots.now.keys c.loop-k.spots.keys c.note_part.new.spots.keys c.loop-k.invariant
     (import_item v ws c.loop-k.k w c.loop-k.spots.keys c.note_part.new.spots.keys there
-    (exactly v.tokens.now v.file (IsImportOut w.path w.path_at) c.import_part.result c.loop-k.spots.keys c.note_part.new.spots.keys c.import_part.ensures c.in_ok-note_part.ensures))
+    (exactly v.file.now.tokens v.number (IsImportOut w.path w.path_at) c.import_part.result c.loop-k.spots.keys c.note_part.new.spots.keys c.import_part.ensures c.in_ok-note_part.ensures))
 
 pub returns : goal.returns
-returns c = imports_all c.args.view.now c.in_ok-imports.imports.items c.loop-k.k c.args.spots.now.keys c.loop-k.spots.keys (omega arith) c.in_ok-imports.ensures c.loop-k.invariant
+returns c =
+    let v = c.args.view.now in
+    let read : ◌≡◌ {A = SourceFile} (record { bytes = c.bytes.result.now; tokens = c.tokens.result.now; nodes = c.nodes.result.now }) v.file.now =
+    λ i. record { bytes = c.bytes.ensures i; tokens = c.tokens.ensures i; nodes = c.nodes.ensures.nodes i } in
+    let imports : IsListOf (λ (a b : Written). a.node < b.node) (λ w. (w.file ≡ v.number) × IsWritten v.file.now w) c.in_ok-imports.imports.items =
+    subst (λ f. IsListOf (λ (a b : Written). a.node < b.node) (λ w. (w.file ≡ v.number) × IsWritten f w) c.in_ok-imports.imports.items) read c.in_ok-imports.ensures in
+    imports_all v c.in_ok-imports.imports.items c.loop-k.k c.args.spots.now.keys c.loop-k.spots.keys (omega arith) imports c.loop-k.invariant

@@ -4,7 +4,7 @@ use Rattle.argot_names_subset_file.specs.Atoms.{IsBeforeDot}
 use Rattle.argot_names_subset_file.proofs.names.before_dot.Given as goal
 
 abbrev pub invariant-loop-above : goal.invariant-loop-above
-invariant-loop-above l = (s : ℕ) → IsBeforeDot l.nodes l.fn.k s ↔ IsBeforeDot l.nodes l.at s
+invariant-loop-above l = (s : ℕ) → IsBeforeDot l.file.nodes l.fn.k s ↔ IsBeforeDot l.file.nodes l.at s
 
 abbrev pub decreases-loop-above : goal.decreases-loop-above
 decreases-loop-above l = l.at

@@ -1,14 +1,14 @@
 use Rattle.argot_names_subset_file.proofs.PartLemmas.{number_some, number_plain, number_lost, number_none}
 use Rattle.argot_names_subset_file.proofs.parts.number_at.Goals as goal
 
-pub returns-in_default : goal.returns-in_default
-returns-in_default c = number_none c.args.nodes.now c.args.k c.args.tokens.now c.in_default.ensures
+pub returns-in_err-token : goal.returns-in_err-token
+returns-in_err-token c = rw c.from_residual.ensures (number_none c.args.file.now.nodes c.args.k c.args.file.now.tokens c.in_err-token.ensures)
 
-pub returns-in_default-kind_at : goal.returns-in_default-kind_at
-returns-in_default-kind_at c = number_lost c.args.nodes.now c.args.k c.args.tokens.now c.in-Some.token c.in-Some.ensures c.in_default-kind_at.ensures
+pub returns-in_err-kind : goal.returns-in_err-kind
+returns-in_err-kind c = rw c.from_residual-in_err-kind.ensures (number_lost c.args.file.now.nodes c.args.k c.args.file.now.tokens c.in_ok-token.token c.in_ok-token.ensures c.in_err-kind.ensures)
 
-pub returns-in-Some-number_of : goal.returns-in-Some-number_of
-returns-in-Some-number_of c = number_some c.args.nodes.now c.args.k c.args.tokens.now c.in-Some.token c.in-Some-kind_at.kind c.in-Some-number_of.feature c.in-Some.ensures c.in-Some-kind_at.ensures c.in-Some-number_of.ensures
+pub returns-in_err-feature : goal.returns-in_err-feature
+returns-in_err-feature c = rw c.from_residual-in_err-feature.ensures (number_plain c.args.file.now.nodes c.args.k c.args.file.now.tokens c.in_ok-token.token c.in_ok-kind.kind c.in_ok-token.ensures c.in_ok-kind.ensures c.in_err-feature.ensures)
 
-pub returns-in-None : goal.returns-in-None
-returns-in-None c = number_plain c.args.nodes.now c.args.k c.args.tokens.now c.in-Some.token c.in-Some-kind_at.kind c.in-Some.ensures c.in-Some-kind_at.ensures c.in-None.ensures
+pub returns : goal.returns
+returns c = number_some c.args.file.now.nodes c.args.k c.args.file.now.tokens c.in_ok-token.token c.in_ok-kind.kind c.in_ok-feature.feature c.in_ok-token.ensures c.in_ok-kind.ensures c.in_ok-feature.ensures

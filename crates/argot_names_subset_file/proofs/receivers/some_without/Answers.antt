@@ -1,16 +1,21 @@
-use Rattle.std.proofs.Common.{◌<◌, length, sym, subst}
-use Rattle.argot_names_subset_file.specs.Receivers.{file_of}
-use Rattle.argot_names_subset_file.proofs.ReceiverLemmas.{IsLeft, left_first, left_next, room, room_falls}
+use Rattle.argot_names_rules.specs.Nodes.{IsChild}
+use Rattle.argot_answers.proofs.Walks.{walk_starts, walk_at, walk_on, walk_ends}
+use Rattle.argot_answers.proofs.Tests.{no_iff, yes_iff, iff_no}
+use Rattle.argot_names_subset_file.specs.Receivers.{IsWithout}
 use Rattle.argot_names_subset_file.proofs.receivers.some_without.Goals as goal
 
-pub loop-child-init : goal.loop-child-init
-loop-child-init c = left_first (file_of c.args.bytes.now c.args.tokens.now c.args.nodes.now) c.args.entries.now c.args.path.now c.args.name.now c.args.decl c.first_of-child.result c.first_of-child.ensures
+pub loop-at-init : goal.loop-at-init
+loop-at-init c = walk_starts (IsChild c.args.view.now.file.now.nodes c.args.decl) (IsWithout c.args.view.now.file.now c.args.view.now.entries.now c.args.path.now c.args.name.now) _ _ c.into_iter-at-iterator.ensures.into_iter_gives c.children-at-items.ensures.each
 
-pub loop-child-smaller : goal.loop-child-smaller
-loop-child-smaller c = subst (λ o. room (length c.args.nodes.now) c.next_of-child.result < room (length c.args.nodes.now) o) (sym c.in-Some.is) (room_falls c.args.nodes.now c.in-Some.at c.next_of-child.result c.requires c.next_of-child.ensures)
+pub returns-then-is_without : goal.returns-then-is_without
+returns-then-is_without c = yes_iff (record {
+  list = c.in-Some.at;
+  under = walk_at (IsChild c.args.view.now.file.now.nodes c.args.decl) (IsWithout c.args.view.now.file.now c.args.view.now.entries.now c.args.path.now c.args.name.now) _ _ _ c.in-Some.ensures.steps c.loop-at.invariant;
+  without = c.is_without.ensures.0 c.if-is_without.true;
+})
 
-pub loop-child-preserved : goal.loop-child-preserved
-loop-child-preserved c =
-    left_next (file_of c.args.bytes.now c.args.tokens.now c.args.nodes.now) c.args.entries.now c.args.path.now c.args.name.now c.args.decl c.in-Some.at c.next_of-child.result
-    (subst (IsLeft (file_of c.args.bytes.now c.args.tokens.now c.args.nodes.now) c.args.entries.now c.args.path.now c.args.name.now c.args.decl) c.in-Some.is c.loop-child.invariant)
-    (c.is_without.ensures.no c.if-is_without.false) c.next_of-child.ensures
+pub loop-at-preserved : goal.loop-at-preserved
+loop-at-preserved c = walk_on (IsChild c.args.view.now.file.now.nodes c.args.decl) (IsWithout c.args.view.now.file.now c.args.view.now.entries.now c.args.path.now c.args.name.now) _ _ _ c.in-Some.ensures.steps c.loop-at.invariant (iff_no c.is_without.result c.if-is_without.false c.is_without.ensures)
+
+pub returns : goal.returns
+returns c = no_iff (λ w. walk_ends (IsChild c.args.view.now.file.now.nodes c.args.decl) (IsWithout c.args.view.now.file.now c.args.view.now.entries.now c.args.path.now c.args.name.now) _ c.in-None.ensures.steps.0 c.loop-at.invariant w.list w.under w.without)

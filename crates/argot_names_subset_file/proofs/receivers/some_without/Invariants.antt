@@ -1,10 +1,7 @@
-use Rattle.std.proofs.Common.{length}
-use Rattle.argot_names_subset_file.specs.Receivers.{file_of}
-use Rattle.argot_names_subset_file.proofs.ReceiverLemmas.{IsLeft, room}
+use Rattle.argot_names_rules.specs.Nodes.{IsChild}
+use Rattle.argot_answers.proofs.Walks.{IsLeft}
+use Rattle.argot_names_subset_file.specs.Receivers.{IsWithout}
 use Rattle.argot_names_subset_file.proofs.receivers.some_without.Given as goal
 
-abbrev pub invariant-loop-child : goal.invariant-loop-child
-invariant-loop-child l = IsLeft (file_of l.bytes l.tokens l.nodes) l.entries l.path l.name l.decl l.child
-
-abbrev pub decreases-loop-child : goal.decreases-loop-child
-decreases-loop-child l = room (length l.nodes) l.child
+abbrev pub invariant-loop-at : goal.invariant-loop-at
+invariant-loop-at l = IsLeft (IsChild l.view.file.now.nodes l.decl) (IsWithout l.view.file.now l.view.entries.now l.path l.name) l.at-iterator

@@ -1,5 +1,5 @@
 use Rattle.argot_names_uses.proofs.FirstUnresolved.{not_reached}
-use Rattle.argot_names_uses.proofs.Files.{file_passed}
+use Rattle.argot_names_uses.proofs.FilledFiles.{file_passed}
 use Rattle.argot_names_uses.proofs.all_files.fill_file.Goals as goal
 
 pub returns-in_default-clause-table : goal.returns-in_default-clause-table

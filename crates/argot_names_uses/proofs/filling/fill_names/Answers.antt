@@ -1,6 +1,6 @@
 use Rattle.std.proofs.Common.{length}
 use Rattle.argot_names_uses.proofs.FirstUnresolved.{first_of_both}
-use Rattle.argot_names_uses.proofs.Files.{file_begun, file_filled}
+use Rattle.argot_names_uses.proofs.FilledFiles.{file_begun, file_filled}
 use Rattle.argot_names_uses.proofs.filling.fill_names.Goals as goal
 
 pub returns-clause-table : goal.returns-clause-table

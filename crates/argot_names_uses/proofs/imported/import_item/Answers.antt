@@ -1,7 +1,7 @@
 use Rattle.std.proofs.Common.{◌≡◌, Some, sym, subst}
 use Rattle.std.specs.Prelude.{slice_get}
 use Rattle.argot_names_rules.specs.Files.{read_of}
-use Rattle.argot_names_tops.specs.Places.{place_of}
+use Rattle.argot_files.specs.Places.{place_of}
 use Rattle.argot_names_uses.proofs.NodeClasses.{some_is}
 use Rattle.argot_names_uses.proofs.ImportItems.{import_node, import_gives}
 use Rattle.argot_names_uses.proofs.imported.import_item.Goals as goal

@@ -1,6 +1,6 @@
 use Rattle.std.proofs.Common.{refl}
 use Rattle.argot_names_uses.proofs.NodeClasses.{some_is}
-use Rattle.argot_names_uses.proofs.Numbered.{tree_of}
+use Rattle.argot_names_uses.proofs.NumberedNodes.{tree_of}
 use Rattle.argot_names_uses.proofs.item.item_of.Goals as goal
 
 pub returns-in-Some : goal.returns-in-Some

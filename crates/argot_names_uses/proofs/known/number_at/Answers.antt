@@ -3,7 +3,7 @@ use Rattle.std.specs.Prelude.{IfSome, IfNone}
 use Rattle.argot_names_rules.specs.Loaded.{number_of, count_nodes}
 use Rattle.argot_names_imports.specs.Reached.{homes_of}
 use Rattle.argot_names_uses.specs.DeclTables.{IsOfNode}
-use Rattle.argot_names_uses.proofs.Numbered.{tree_of, number_below}
+use Rattle.argot_names_uses.proofs.NumberedNodes.{tree_of, number_below}
 use Rattle.argot_names_uses.proofs.Numbering.{some_is, node_number_is}
 use Rattle.argot_names_uses.proofs.known.number_at.Goals as goal
 

@@ -1,4 +1,4 @@
-use Rattle.argot_names_uses.proofs.Filling.{entry_found, entry_missed}
+use Rattle.argot_names_uses.proofs.FilledNames.{entry_found, entry_missed}
 use Rattle.argot_names_uses.proofs.numbered.decl_number.Goals as goal
 
 pub returns-clause-some : goal.returns-clause-some

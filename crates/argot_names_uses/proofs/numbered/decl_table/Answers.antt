@@ -1,6 +1,6 @@
 use Rattle.std.proofs.Common.{arith}
 use Rattle.argot_names_imports.proofs.Lists.{get_there}
-use Rattle.argot_names_uses.proofs.Filling.{table_next, table_whole}
+use Rattle.argot_names_uses.proofs.FilledNames.{table_next, table_whole}
 use Rattle.argot_names_uses.proofs.numbered.decl_table.Goals as goal
 
 pub loop-number-preserved : goal.loop-number-preserved

@@ -1,0 +1,4 @@
+use Rattle.argot_names.proofs.checks.check_known.Goals as goal
+
+pub returns-in-Some-clause-fault : goal.returns-in-Some-clause-fault
+returns-in-Some-clause-fault c = record { place = c.in-Some.place; there = c.in-Some.is; is = ? }
