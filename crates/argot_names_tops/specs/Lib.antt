@@ -9,4 +9,3 @@ pub mod ImportNames
 pub mod First
 pub mod Behind
 pub mod Meanings
-pub mod Scopes

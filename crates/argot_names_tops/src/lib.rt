@@ -6,8 +6,7 @@
 //! take one look into these. `meaning_of` meets `Means` of argot_names_rules, block by block from the inside out: functions'
 //! blocks (argot_names_scopes), the file's imports, the package's declarations, predeclared names. `redeclared` is the first
 //! place of `IsRedeclared`; `is_exported` and `predeclared_number` say what a name's text alone says. The crates that resolve
-//! names ask `meaning_of` for each; those above ask `Scopes`, which owns all of this: `lookup(file, token, name)`. Tables are
-//! made in linear time but for hashing; a look costs the depth of blocks.
+//! names ask `meaning_of` for each. Tables are made in linear time but for hashing; a look costs the depth of blocks.
 #![tactic(auto)]
 
 mod again;
@@ -25,7 +24,6 @@ mod meaning;
 mod named;
 mod packaged;
 mod predeclared;
-mod scopes;
 mod texts;
 mod tops;
 
@@ -37,7 +35,6 @@ pub use making::tops_of;
 pub use meaning::{Meaning, meaning_of};
 pub use named::Named;
 pub use predeclared::{COUNT, predeclared_name, predeclared_number};
-pub use scopes::Scopes;
 pub use tops::{PackageDecl, Tops, file_names, import_meant, top_meant};
 
 #[cfg(test)]

@@ -4,7 +4,7 @@ use Rattle.argot_names_tops.proofs.ReadFiles.{files_all, files_none, files_more}
 use Rattle.argot_names_tops.proofs.files.files_of.Goals as goal
 
 pub loop-file-init : goal.loop-file-init
-loop-file-init c = files_none (files_in c.args.files.now) c.args.reached.now c.new-files.result.items c.new-files.ensures.items
+loop-file-init c = files_none (files_in c.args.files.now) c.args.reached.now c.new-names.result.items c.new-names.ensures.items
 
 pub loop-file-preserved : goal.loop-file-preserved
 loop-file-preserved c =
