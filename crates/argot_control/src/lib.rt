@@ -1,0 +1,9 @@
+//! Control order by blocks. A block is a run of places that control enters at the first one alone; a path leads from one place
+//! to another exactly where the latter stands behind the former in one block, or where the block of the one leads to that of
+//! the other. So which place may come after which (`argot_facts`, `specs/Follows.antt`) is a look-up by block.
+//!
+//! `specs/Blocks.antt` has the definitions, and the laws here say that they are right over any handed facts, and which places
+//! are inner ones. The calls that make the blocks and rows of a program, and answer the look-up, aren't there yet.
+#![tactic(auto)]
+
+pub mod laws;
