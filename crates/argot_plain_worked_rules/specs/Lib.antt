@@ -1,0 +1,15 @@
+pub mod Worked
+pub mod Slices
+pub mod Externals
+pub mod Unwinding
+pub mod NilFunction
+pub mod Boxes
+pub mod Sanitized
+pub mod Validated
+pub mod SourcePlace
+pub mod Overwritten
+pub mod Shared
+pub mod Handed
+pub mod Twice
+pub mod Variables
+pub mod TracedBack
