@@ -60,9 +60,10 @@ fn with_reference(totals: Totals, points: &Points, spot: u64, y: u32) -> Totals 
     }
     Totals {
         references: totals.references.wrapping_add(1),
-        sum: totals
-            .sum
-            .wrapping_add(spot.wrapping_mul(31).wrapping_add(of_location(points.location(y)))),
+        sum: totals.sum.wrapping_add(
+            spot.wrapping_mul(31)
+                .wrapping_add(of_location(points.location(y))),
+        ),
     }
 }
 
