@@ -5,7 +5,7 @@ use Rattle.argot_plain.specs.Machine.{Labelling}
 use Rattle.argot_plain.specs.Step.{one_step, act_ends, act_puts}
 use Rattle.argot_plain.specs.declared.instructions.Kind.TheVariants.{Global}
 use Rattle.argot_plain_worked_rules.specs.Worked.{asked, entry_function}
-use Rattle.argot_plain_worked_rules.specs.Variables.{variables, ItComesClean, ItEnds}
+use Rattle.argot_plain_worked_rules.specs.Variables.{variables, ItComesClean}
 use Rattle.argot_plain_worked_rules.proofs.Small.{cleanly}
 use Rattle.argot_plain_worked_rules.proofs.Ahead.{opened, gone_ahead, stepped_to}
 

@@ -1,6 +1,6 @@
-//! Worked programs for the rules of the machine and of the relations. Each is a few lines of Go as plain code, with a run
-//! that uses the rule for which it is there, what comes to its sinks, an edge that the relation has and one that it has
-//! not. A rule that could never apply, or a relation that held nothing or everything, would be seen here.
+//! Worked programs for the rules of the machine and of the relations. Each is a few lines of Go as plain code, with runs
+//! that use the rule for which it is there, what comes to its sinks, and edges that the relation has or hasn't. A rule
+//! that could never apply, or a relation that held nothing or everything, would be seen here.
 //!
 //! A program stands in a file of its own in specs/, under its lines of Go; `Worked.antt` says what programs are made of
 //! and what is said of them. Their runs are short in proofs/: where the machine has no choice they go ahead by
