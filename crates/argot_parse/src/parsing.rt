@@ -1,5 +1,6 @@
 // All tokens of a file, as one tree.
-ghost use Rattle.std.specs.Prelude.{◌≡◌, IfOk, IfErr, IfSome, List};
+ghost use Rattle.std.specs.Prelude.{◌≡◌, IfOk, IfErr, IfSome, List, length};
+ghost use Rattle.argot_grammar.specs.Parts.{NamesUpTo};
 ghost use Rattle.argot_tree.specs.Nesting.{IsShallow};
 ghost use Rattle.argot_tree.specs.Trees.{SpellsTree};
 ghost use Rattle.argot_parse.specs.Parsed.{IsSyntax, IsUnparsed};
@@ -12,25 +13,27 @@ use argot_text::Sequence;
 use argot_tree::{Token, Tree};
 use std::alloc::Global;
 
-// The furthest token at which one that is needed was missing; a file may end too early too.
-fn syntax(out: &Writer, to: usize) -> ParseFault
-    ensures { IsSyntax result }
+// The furthest of so many tokens at which one that is needed was missing; a file may end too early too.
+fn syntax(out: &Writer, to: usize, count: u32) -> ParseFault
+    ensures syntax { IsSyntax result }
+    ensures token { NamesUpTo count result }
 {
-    let token = if out.furthest < to { to } else { out.furthest };
-    match u32::try_from(token) {
-        Ok(token) => ParseFault::Syntax { token },
-        Err(_) => ParseFault::Syntax { token: u32::MAX },
+    let furthest = u32::try_from(out.furthest.max(to)).unwrap_or(u32::MAX);
+    ParseFault::Syntax {
+        token: furthest.min(count),
     }
 }
 
 /// The tree that spells a file's tokens (Go specification: Source file organization).
 ///
 /// The nodes are in preorder, each with its first token and its last, its first child and its next sibling. A tree is
-/// answered exactly where one spells the tokens and none of them is nested deeper than 200.
+/// answered exactly where one spells the tokens and none of them is nested deeper than 200. A fault of syntax names a token,
+/// or their number.
 pub fn parse(alloc: Global, tokens: &Vec<Token>) -> Result<Tree, ParseFault>
     ensures tree { IfOk result (λ tree. SpellsTree tree tokens.now.items) }
     ensures shallow { IfOk result (λ _. IsShallow tokens.now.items) }
     ensures fault { IfErr result (IsUnparsed tokens.now.items) }
+    ensures token { IfErr result (NamesUpTo (length tokens.now.items)) }
 {
     if tokens.len() > u32::MAX as usize {
         return Err(ParseFault::Memory);
@@ -45,12 +48,13 @@ pub fn parse(alloc: Global, tokens: &Vec<Token>) -> Result<Tree, ParseFault>
         posts: Vec::new(alloc),
         furthest: 0,
     };
+    let count = tokens.len() as u32;
     let steps = 32 * tokens.len() + 1;
     let Some(to) = file(tokens, &mut out, steps, 0)? else {
-        return Err(syntax(&out, 0));
+        return Err(syntax(&out, 0, count));
     };
     if to != tokens.len() {
-        return Err(syntax(&out, to));
+        return Err(syntax(&out, to, count));
     }
     let nodes = link(alloc, out.posts)?;
     Ok(Tree {

@@ -14,7 +14,7 @@ returns-in_default-2-clause-fault c =
     let gives = rw c.in_default-2.is at c.in_ok-to.ensures in
     let shallow : IsShallow tokens = subst IsShallow c.deref.ensures.value c.in_default.ensures.shallow in
     let none : SpellsNoTree tokens = subst SpellsNoTree same (unread c.deref-2.result.now _ c.new.result.items c.new.ensures.items (omega arith) gives.0) in
-    syntax_fault tokens c.syntax.result c.syntax.ensures shallow none
+    syntax_fault tokens c.syntax.result c.syntax.ensures.syntax shallow none
 
 pub returns-then-to-len-clause-fault : goal.returns-then-to-len-clause-fault
 returns-then-to-len-clause-fault c =
@@ -24,7 +24,7 @@ returns-then-to-len-clause-fault c =
     let gives = rw c.in-Some-2.is at c.in_ok-to.ensures in
     let shallow : IsShallow tokens = subst IsShallow c.deref.ensures.value c.in_default.ensures.shallow in
     let none : SpellsNoTree tokens = subst SpellsNoTree same (read_short c.deref-2.result.now _ c.in-Some-2.to c.new.result.items c.file.new.out.posts.items c.new.ensures.items (omega arith) gives (λ e. c.if-to-len.true (omega arith))) in
-    syntax_fault tokens c.syntax-then-to-len.result c.syntax-then-to-len.ensures shallow none
+    syntax_fault tokens c.syntax-then-to-len.result c.syntax-then-to-len.ensures.syntax shallow none
 
 pub returns-clause-tree : goal.returns-clause-tree
 returns-clause-tree c =
