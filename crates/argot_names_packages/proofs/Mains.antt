@@ -1,5 +1,5 @@
 -- Functions named `main`.
-use Rattle.std.proofs.Common.{◌≡◌, ℕ, ◌<◌, ◌≤◌, List, length, Bool, true, false, Option, Some, None, refl, sym, ap, ◌∙◌, subst, arith}
+use Rattle.std.proofs.Common.{◌≡◌, ℕ, ◌<◌, ◌≤◌, List, [], length, Bool, true, false, Option, Some, None, refl, sym, ap, ◌∙◌, subst, arith}
 use Rattle.std.specs.Prelude.{◌↔◌, IsTrue, codes, slice_get}
 use Rattle.argot_answers.specs.Answers.{Exactly}
 use Rattle.argot_answers.proofs.Exactly.{exact_none, exact_some, exact_one, exact_holds, exact_not}
@@ -106,3 +106,10 @@ module _ (f : SourceFile) (k : ℕ) where
 -- a node that is one is there
 pub main_below : (f : SourceFile) (k : ℕ) → IsMainNode f k → k < length f.nodes
 main_below f k m = let n = is_name f.nodes k m.token m.is in get_below f.nodes k _ n.name.there
+
+false_true : false ≡ true → ⊥
+false_true e = cc
+
+-- a file without nodes has none
+pub nothing_main : (f : SourceFile) → f.nodes ≡ [] → (false ≡ true) ↔ HasMainNode f
+nothing_main f e = (λ no_way. absurd (false_true no_way), λ m. absurd (omega (arith, main_below f m.0 m.1, ap length e)))

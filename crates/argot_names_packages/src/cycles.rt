@@ -1,6 +1,6 @@
 // The first import on a cycle.
 ghost use Rattle.std.specs.Prelude.{◌≡◌, ◌<◌, ◌^◌, ◌+◌, List, ℕ, true, length, IfSome, IfNone, IfOk};
-ghost use Rattle.argot_names_rules.specs.Files.{SourceFiles, Place};
+ghost use Rattle.argot_names_rules.specs.Files.{SourceFiles, Place as Byte};
 ghost use Rattle.argot_names_rules.specs.Faults.{IsOnCycle};
 ghost use Rattle.argot_names_imports.specs.Surveyed.{IsSurvey};
 ghost use Rattle.argot_names_imports.specs.Graph.{IsStep, Leads, Reaches};

@@ -33,21 +33,25 @@ fn has_main_node(file: &File) -> bool
     false
 }
 
+// The tree of a file.
+fn tree_at(trees: &[Tree], file: u32) -> Option<&Tree>
+    ensures { option_map (λ t. t.now) result ≡ slice_get trees.now file }
+{
+    trees.get(file as usize)
+}
+
 // The file of this number has a function `main`.
 fn file_has_main(alloc: Global, files: &Files, file: u32) -> Result<bool, Memory>
     requires { (tree : Tree) → slice_get files.now.trees.now file ≡ Some tree
         → (spelled : List Token) × SpellsTree tree spelled }
     ensures { IfOk result (λ b. b ≡ true ↔ HasMainNode (read_of (files_in files.now) file)) }
 {
-    match files.trees.get(file as usize) {
+    match tree_at(files.trees, file) {
         Some(tree) => {
-            let file = File::new(
-                alloc,
-                bytes_at(files.sources, file),
-                tokens_at(files.lexed, file),
-                tree,
-            )?;
-            Ok(has_main_node(&file))
+            let bytes = bytes_at(files.sources, file);
+            let tokens = tokens_at(files.lexed, file);
+            let read = File::new(alloc, bytes, tokens, tree)?;
+            Ok(has_main_node(&read))
         }
         None => Ok(false),
     }

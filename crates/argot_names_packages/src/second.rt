@@ -1,6 +1,6 @@
 // The first package clause that differs from that of its package's first file.
 ghost use Rattle.std.specs.Prelude.{◌≡◌, ◌<◌, ◌↔◌, List, ℕ, option_map, IfOk};
-ghost use Rattle.argot_names_rules.specs.Files.{Place};
+ghost use Rattle.argot_names_rules.specs.Files.{Place as Byte};
 ghost use Rattle.argot_names_rules.specs.Faults.{IsSecondName};
 ghost use Rattle.argot_files.specs.Reading.{files_in};
 ghost use Rattle.argot_names_imports.specs.Reads.{handed};
@@ -28,7 +28,7 @@ fn differ(name: Option<&[u8]>, other: Option<&[u8]>) -> bool
 
 // Where a file begins whose package is reached and has another name.
 fn second_at(survey: &Survey, files: &Files, file: u32) -> Option<Place>
-    ensures { (place : Place) → IsSecondAt survey.now (files_in files.now) file place ↔ IsAt result place }
+    ensures { (place : Byte) → IsSecondAt survey.now (files_in files.now) file place ↔ IsAt result place }
 {
     let Some(first) = reached_leader(survey, file) else {
         return None;

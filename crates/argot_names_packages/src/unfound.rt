@@ -1,6 +1,6 @@
 // The first import that finds no package.
 ghost use Rattle.std.specs.Prelude.{◌≡◌, ◌<◌, ◌↔◌, List, ℕ, length};
-ghost use Rattle.argot_names_rules.specs.Files.{SourceFiles, Place};
+ghost use Rattle.argot_names_rules.specs.Files.{SourceFiles, Place as Byte};
 ghost use Rattle.argot_names_rules.specs.Faults.{FindsNone};
 ghost use Rattle.argot_names_imports.specs.Surveyed.{IsSurvey};
 ghost use Rattle.argot_names_packages.specs.Spots.{IsAt, IsLeast};
@@ -28,7 +28,7 @@ fn is_nothing(found: Found) -> bool
 fn missing_at(survey: &Survey, lexed: &[Lexed], k: usize) -> Option<Place>
     requires imports { k < length survey.now.imports.items }
     requires founds { k < length survey.now.founds.items }
-    ensures { (place : Place) → IsMissingAt survey.now lexed.now k place ↔ IsAt result place }
+    ensures { (place : Byte) → IsMissingAt survey.now lexed.now k place ↔ IsAt result place }
 {
     if !is_nothing(found_at(&survey.founds, k)) {
         return None;
