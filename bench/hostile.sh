@@ -59,7 +59,7 @@ forms = [
     ("calls: f(1)(1)", value("f", "(1)", "")),
     ("selectors: x.f.f", value("x", ".f", "")),
     ("assertions: x.(T).(T)", value("x", ".(T)", "")),
-    ("indexes: x[i][i]", value("x", "[i]", "")),
+    ("indexes: x[f(i)]", value("x", "[f(i)]", "")),
     ("labels", inside("", "L:\n", "return")),
     ("else if", inside("if a {\n\t}", " else if a {\n\t}", "")),
     ("else if with :=", inside("if a := 1; a > 1 {\n\t}", " else if b := a; b > 1 {\n\t}", "")),
