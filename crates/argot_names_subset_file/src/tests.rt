@@ -1,34 +1,16 @@
 use super::*;
+use crate::entries::has_entry;
 use std::test::Fail;
 
 #[test]
-fn comments_for_the_compiler(rt: HostRuntime) -> Result<(), Fail> {
-    let alloc = rt.alloc();
-    let entries = entry_table(alloc, &[])?;
-    let view = View {
-        file: 3,
-        bytes: b"//go:build x\n//go:buildy\n//go:embed\n//go:build\r\n".as_slice(),
-        tokens: &[],
-        nodes: &[],
-        parents: &[],
-        bodies: &[],
-        receivers: &[],
-        named: &[],
-        typed: &[],
-        entries: &entries,
-        path: None,
-    };
-    let spots = spots_of(alloc, &view, &[0, 13, 25, 36])?;
-    assert_eq!(rt; spots.len(), 2);
-    for (k, offset, rank) in [(0, 0, 6), (1, 25, 7)] {
-        let spot = spots.get(k).copied();
-        assert!(rt;
-            spot == Some(Spot {
-                file: 3,
-                offset,
-                rank
-            })
-        );
-    }
+fn no_entry_names_a_function(rt: HostRuntime) -> Result<(), Fail> {
+    let entries = entry_table(rt.alloc(), &[])?;
+    let found = has_entry(
+        &entries,
+        b"main".as_slice(),
+        b"".as_slice(),
+        b"f".as_slice(),
+    );
+    assert!(rt; !found);
     Ok(())
 }
