@@ -1,2 +1,5 @@
 pub mod Cutting
 pub mod Searching
+pub mod Decimals
+pub mod Unquoted
+pub mod GoLines

@@ -1,6 +1,6 @@
 -- The lines of a file, one after the other.
-use Rattle.std.proofs.Common.{◌≡◌, ◌≢◌, ℕ, zero, suc, ◌+◌, ◌<◌, ◌≤◌, ◌⊎◌, inl, inr, List, [], ◌∷◌, ◌++◌, Bool, true, false, not, take, drop, length, refl, sym, ap, ◌∙◌, subst, arith, length-drop}
-use Rattle.std.specs.Prelude.{slice_get, Option, Some, None, nat_eq, nat_lt, ◌-◌, take_while, ◌==◌}
+use Rattle.std.proofs.Common.{◌≡◌, ◌≢◌, ℕ, zero, suc, ◌+◌, ◌<◌, ◌≤◌, ◌⊎◌, inl, inr, List, [], ◌∷◌, Bool, true, false, not, take, drop, length, refl, sym, ap, ◌∙◌, subst, arith, length-drop}
+use Rattle.std.specs.Prelude.{slice_get, Some, nat_lt, ◌-◌, take_while, ◌==◌}
 use Rattle.std.specs.List.{prefix_len}
 use Rattle.std.proofs.lemmas.Bool.{cases_eq, eqb-true, eq-eqb}
 use Rattle.std.proofs.lemmas.Bool.Decides.{nat_tests}
@@ -10,7 +10,7 @@ use Rattle.argot_names_rules.specs.GoMod.{BeginsLine, top, behind, line_at, HasW
 use Rattle.argot_names_module.specs.Lines.{is_in_line}
 use Rattle.argot_names_module.proofs.Cutting.{cut_passes, cut_stops, line_words, Stops}
 
-get_drop : (n : ℕ) (xs : List ℕ) (j : ℕ) → slice_get (drop n xs) j ≡ slice_get xs (n + j)
+pub get_drop : (n : ℕ) (xs : List ℕ) (j : ℕ) → slice_get (drop n xs) j ≡ slice_get xs (n + j)
 get_drop zero xs j = let at : j ≡ 0 + j = omega arith in ap (slice_get xs) at
 get_drop (suc n) [] j = refl
 get_drop (suc n) (x ∷ xs) j = get_drop n xs j ∙ (let at : suc (n + j) ≡ suc n + j = omega arith in ap (slice_get (x ∷ xs)) at)
@@ -26,7 +26,7 @@ get_within [] k b e = absurd (cc)
 get_within (x ∷ xs) zero b e = omega arith
 get_within (x ∷ xs) (suc k) b e = let l = get_within xs k b e in omega (arith, l)
 
-get_there : (xs : List ℕ) (k : ℕ) → k < length xs → (b : ℕ) × (slice_get xs k ≡ Some b)
+pub get_there : (xs : List ℕ) (k : ℕ) → k < length xs → (b : ℕ) × (slice_get xs k ≡ Some b)
 get_there [] k l = absurd (omega arith)
 get_there (x ∷ xs) zero l = (x, refl)
 get_there (x ∷ xs) (suc k) l = get_there xs k (omega arith)

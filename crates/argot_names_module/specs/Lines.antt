@@ -1,7 +1,8 @@
 -- The words of a line, cut one after the other.
-use Rattle.std.specs.Prelude.{◌≡◌, ℕ, ◌==◌, Bool, not, List, drop, take, take_while}
+use Rattle.std.specs.Prelude.{ℕ, ◌==◌, Bool, not, List, drop, take_while}
 use Rattle.std.specs.List.{prefix_len}
-use Rattle.argot_names_rules.specs.GoMod.{separates, before_comment}
+use Rattle.std.specs.Char.{is_digit}
+use Rattle.argot_names_rules.specs.GoMod.{separates}
 
 abbrev pub is_in_word : ℕ → Bool
 is_in_word b = not (separates b)
@@ -26,3 +27,6 @@ first_of text = word_of (behind_blank text)
 
 abbrev pub second_of : List ℕ → List ℕ
 second_of text = word_of (behind_blank (behind_word (behind_blank text)))
+
+abbrev pub is_decimal : ℕ → Bool
+is_decimal b = is_digit b 10

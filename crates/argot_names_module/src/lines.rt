@@ -46,7 +46,7 @@ fn is_same(text: &[u8], word: &[u8]) -> bool
 }
 
 /// Whether there are bytes.
-fn is_some(text: &[u8]) -> bool
+pub fn is_some(text: &[u8]) -> bool
     ensures { IsTrue result ↔ (text.now ≢ []) }
 {
     !text.is_empty()

@@ -1,5 +1,5 @@
-use Rattle.std.proofs.Common.{◌≡◌, ℕ, List, length, arith, sym, ap, ◌∙◌, subst, refl, ◌+◌}
-use Rattle.argot_names_rules.specs.GoMod.{line_at, HasWords}
+use Rattle.std.proofs.Common.{length, arith, sym, ap, subst, refl}
+use Rattle.argot_names_rules.specs.GoMod.{HasWords}
 use Rattle.argot_names_module.proofs.Cutting.{skipped_within}
 use Rattle.argot_names_module.proofs.Searching.{searched_none, searched_more, found_one, found_none, line_room}
 use Rattle.argot_names_module.proofs.lines.first_line.Goals as goal

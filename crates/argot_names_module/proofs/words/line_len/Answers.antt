@@ -1,4 +1,4 @@
-use Rattle.std.proofs.Common.{sym, ◌∙◌, arith, ap, not}
+use Rattle.std.proofs.Common.{sym, arith, ap, not}
 use Rattle.std.proofs.lemmas.List.Sums.{prefix_len_is}
 use Rattle.std.proofs.lemmas.Bool.{eq-eqb}
 use Rattle.argot_names_module.specs.Lines.{is_in_line}
