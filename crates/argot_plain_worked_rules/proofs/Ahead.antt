@@ -7,7 +7,7 @@ use Rattle.argot_plain.specs.Code.{Code, IsAt, IsFunction, Next, kind_of, leaves
 use Rattle.argot_plain.specs.Machine.{with_labels, Labelling, Datum, Scalar, Nil, Ref, Content, content, zero_content, Cell, Slot, Deferred, Frame, View, State, same_labels, put_cell, or_zero, value_at, labels_of, copied, joined, stepped, asserted, written, after_write, handed_back}
 use Rattle.argot_plain.specs.Outside.{by_number, result_labels}
 use Rattle.argot_plain.specs.Puts.{Fills, no_leaf, one_leaf, Picks, pick_all, pick_one, place_labels, passed_labels, MayMove, MayRead, readable, variable, fresh_object, Gives}
-use Rattle.argot_plain.specs.Step.{Acts, act_puts, act_stores, act_enters, act_exits, act_leaves, act_leaves_deferred, OneStep, one_step, Run, no_step, then_step, opening, view, goes_on, at_place, entering, leaving}
+use Rattle.argot_plain.specs.Step.{Acts, act_puts, act_stores, act_enters, act_exits, act_leaves, act_leaves_deferred, OneStep, one_step, no_step, then_step, opening, view, goes_on, at_place, entering, leaving}
 use Rattle.argot_plain.specs.declared.functions.Function.{Function}
 use Rattle.argot_plain.specs.declared.functions.Ident.{Ident}
 use Rattle.argot_plain.specs.declared.instructions.Callee.{Callee}

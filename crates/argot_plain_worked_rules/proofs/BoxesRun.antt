@@ -1,13 +1,11 @@
 -- The run of the boxes.
 use Rattle.std.proofs.Common.{refl}
-use Rattle.argot_plain.specs.Lists.{here}
 use Rattle.argot_plain.specs.Leak.{labelled}
 use Rattle.argot_plain.specs.Machine.{Labelling}
-use Rattle.argot_plain.specs.Step.{one_step, act_puts, act_stores_nothing}
-use Rattle.argot_plain.specs.declared.instructions.Kind.TheVariants.{Assert}
+use Rattle.argot_plain.specs.Step.{one_step, act_stores_nothing}
 use Rattle.argot_plain_worked_rules.specs.Worked.{asked, entry_function}
 use Rattle.argot_plain_worked_rules.specs.Boxes.{boxes, ItLeaks}
-use Rattle.argot_plain_worked_rules.proofs.Small.{leaks, cleanly}
+use Rattle.argot_plain_worked_rules.proofs.Small.{leaks}
 use Rattle.argot_plain_worked_rules.proofs.Ahead.{opened, gone_ahead, stepped_to}
 
 abbrev l : Labelling

@@ -1,20 +1,22 @@
 -- Edges that the relation has, one of each kind that goes through a slice, a goroutine, an external or an object.
-use Rattle.std.proofs.Common.{◌≡◌, ℕ, zero, suc, ◌+◌, ◌<◌, ◌≤◌, Bool, true, false, [], ◌∷◌, List, Some, None, refl, sym, ap, ◌∙◌, subst, inl, inr, arith, leb-true, eq-eqb}
-use Rattle.std.specs.Prelude.{◌||◌, ◌&&◌, ◌==◌, slice_get, nat_le, nat_lt, length}
-use Rattle.argot_plain.specs.Lists.{In, here, member}
-use Rattle.argot_plain.specs.Code.{Code, IsAt, IsFunction, IsIn, IsEntry, Hands, by_call, by_go, Successor, successor, Defines, by_kind, by_entry, defined}
+use Rattle.std.proofs.Common.{◌≡◌, ℕ, zero, suc, Bool, true, false, [], ◌∷◌, List, Some, refl, sym, ap, ◌∙◌, subst, inl, inr, leb-true, eq-eqb}
+use Rattle.std.specs.Prelude.{◌||◌, ◌==◌, slice_get, nat_le}
+use Rattle.argot_plain.specs.Lists.{member}
+use Rattle.argot_plain.specs.Code.{Code, IsAt, IsFunction, IsIn, by_call, by_go, successor, Defines, by_kind, by_entry, defined}
+use Rattle.argot_plain.specs.Counts.{traced_back}
 use Rattle.argot_plain.specs.Leak.{a_sink}
-use Rattle.argot_plain.specs.Nodes.{Mark, mark, HasLeaf, of_kind, of_items, of_elements, of_entry}
+use Rattle.argot_plain.specs.Nodes.{mark, HasLeaf, of_kind, of_items, of_elements, of_entry}
 use Rattle.argot_plain.specs.declared.functions.Function.{Function}
 use Rattle.argot_plain.specs.declared.instructions.Callee.TheVariants.{Static}
 use Rattle.argot_plain.specs.declared.instructions.Kind.{Kind}
-use Rattle.argot_plain.specs.declared.instructions.Kind.TheVariants.{Call, Go, New, Op, Read, Write}
+use Rattle.argot_plain.specs.declared.instructions.Kind.TheVariants.{Call, Global, Go, New, Op, Read, Write}
 use Rattle.argot_text.specs.declared.path.PathStep.{PathStep}
-use Rattle.argot_facts.specs.Edges.{grown, go, external, by_object, by_argument, by_write, by_read, direct, at_call}
+use Rattle.argot_facts.specs.Edges.{plain, grown, go, external, by_object, by_argument, by_write, by_read, direct, at_call}
+use Rattle.argot_facts.specs.Escapes.{by_variable}
 use Rattle.argot_facts.specs.Follows.{goes, one, then}
 use Rattle.argot_facts.specs.Graphs.{IsMarked}
 use Rattle.argot_facts.specs.Reaching.{Reaches, next, on, DefinedAt}
-use Rattle.argot_facts.specs.Refers.{Holds, IsLive, Targets, NodeRefers, loc, IsLivePlace, entry_is_live, target_is_live, target_static, new, copy}
+use Rattle.argot_facts.specs.Refers.{Holds, IsLive, NodeRefers, loc, IsLivePlace, entry_is_live, target_is_live, target_static, new, copy, global}
 use Rattle.argot_facts.specs.declared.graphs.EdgeKind.TheVariants.{Plain, Reset}
 use Rattle.argot_plain_worked_rules.specs.Worked.{node, HasEdge, asked, entry_function}
 use Rattle.argot_plain_worked_rules.specs.Slices as Slices
@@ -22,6 +24,8 @@ use Rattle.argot_plain_worked_rules.specs.Shared as Shared
 use Rattle.argot_plain_worked_rules.specs.Externals as Externals
 use Rattle.argot_plain_worked_rules.specs.Overwritten as Overwritten
 use Rattle.argot_plain_worked_rules.specs.Handed as Handed
+use Rattle.argot_plain_worked_rules.specs.TracedBack as TracedBack
+use Rattle.argot_plain_worked_rules.specs.Variables as Variables
 use Rattle.argot_plain_worked_rules.proofs.Small.{own_site, below}
 
 stands_in : (p : Code) (i g : ℕ) (fn : Function) → IsFunction p g fn → nat_le fn.entry i ≡ true → nat_le i fn.leave ≡ true → IsIn p i g
@@ -187,3 +191,44 @@ handed_argument =
           (at_call [] (0 ∷ []) (Static 2) refl)
           (inr (one (goes (hand_place 17 refl refl) (successor (Write 0 1) refl refl))));
     }
+
+-- data that is traced back: the text of line 4 comes to the sum of line 5
+pub traced_plain : HasEdge TracedBack.traced_program (traced_back TracedBack.pointed) 15 0 Plain 16 0
+traced_plain =
+    let inside = stands_in TracedBack.traced_program 15 3 TracedBack.main_function refl refl refl in
+    let there = stands_in TracedBack.traced_program 16 3 TracedBack.main_function refl refl refl in
+    record {
+      from = mark 15 0 [];
+      to = mark 16 0 [];
+      is_from = marked TracedBack.traced_program 15 0 [] (of_kind 3 0 (Op 0 []) inside refl refl refl);
+      is_to = marked TracedBack.traced_program 16 0 [] (of_kind 3 1 (Op 1 (0 ∷ 0 ∷ [])) there refl refl refl);
+      moves = plain 0 (Op 1 (0 ∷ 0 ∷ [])) (live_place TracedBack.traced_program 16 3 there (main_is_live TracedBack.traced_program refl refl)) refl (refl, refl, refl)
+          (record { defines = by_kind (Op 0 []) refl refl; reaches = next (successor (Op 0 []) refl refl) });
+    }
+
+abbrev kept : Code
+kept = Variables.variables
+
+kept_in : (i : ℕ) → nat_le 14 i ≡ true → nat_le i 22 ≡ true → IsIn kept i 3
+kept_in i low high = stands_in kept i 3 Variables.main_function refl low high
+
+kept_place : (i : ℕ) → nat_le 14 i ≡ true → nat_le i 22 ≡ true → IsLivePlace kept i
+kept_place i low high = live_place kept i 3 (kept_in i low high) (main_is_live kept refl refl)
+
+kept_20 : Reaches kept 18 2 20
+kept_20 = on (next (successor (Global 2 0) refl refl)) (not_defined kept 19 2 (Call (3 ∷ []) (Static 1) []) refl refl refl) (successor (Call (3 ∷ []) (Static 1) []) refl refl)
+
+-- a package variable: what line 5 writes may be read in line 4, since any goroutine may run at any time
+pub variables_object : HasEdge Variables.variables asked 20 0 Reset 16 0
+variables_object = record {
+  from = mark 20 0 [];
+  to = mark 16 0 [];
+  is_from = marked kept 20 0 [] (of_kind 3 3 (Write 2 3) (kept_in 20 refl refl) refl refl refl);
+  is_to = marked kept 16 0 [] (of_kind 3 1 (Read 1 0 ([] ∷ [])) (kept_in 16 refl refl) refl refl refl);
+  moves = by_object 0 []
+      (by_write 18 0 2 3 (kept_place 20 refl refl) refl (record { defines = by_kind (Global 2 0) refl refl; reaches = kept_20 })
+      (global 3 2 0 _ _ (kept_in 18 refl refl) (main_is_live kept refl refl) refl refl) refl)
+      (by_read 15 0 1 0 ([] ∷ []) (kept_place 16 refl refl) refl (record { defines = by_kind (Global 0 0) refl refl; reaches = next (successor (Global 0 0) refl refl) })
+      (global 3 0 0 _ _ (kept_in 15 refl refl) (main_is_live kept refl refl) refl refl) refl)
+      (inl (by_variable 0 _ _ refl));
+}

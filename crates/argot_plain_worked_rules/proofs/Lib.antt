@@ -3,7 +3,9 @@ pub mod Ahead
 pub mod Well
 pub mod EdgesHeld
 pub mod Possible
-pub mod Moving
+pub mod Following
+pub mod Leading
+pub mod Joining
 pub mod EdgesNone
 pub mod SlicesRun
 pub mod ExternalsRun
@@ -18,3 +20,7 @@ pub mod HandedRun
 pub mod TwiceRun
 pub mod VariablesRun
 pub mod TracedBackRun
+pub mod Touching
+pub mod SharedRun
+pub mod FlowsHeld
+pub mod FlowsNone

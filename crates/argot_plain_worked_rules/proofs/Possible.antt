@@ -1,13 +1,9 @@
 -- Where data may go from a node at most, by evaluation: a bound from above of the edges, which looks at places and indices and not
 -- at leaves, at which registers are read and where definitions reach, and at the functions that a callee may mean at most.
-use Rattle.std.proofs.Common.{◌≡◌, ℕ, zero, suc, ◌+◌, ◌-◌, ◌<◌, Bool, true, false, not, List, [], ◌∷◌, ◌++◌, Option, Some, None, refl, sym, ap, ◌∙◌, subst, inl, inr, arith, length, eqb-true, eq-eqb, lt-ltb}
-use Rattle.std.specs.Prelude.{◌⊎◌, ◌||◌, ◌&&◌, ◌==◌, slice_get, nat_lt, nat_le, map}
+use Rattle.std.proofs.Common.{◌≡◌, ℕ, zero, suc, ◌+◌, ◌<◌, Bool, true, false, not, List, [], ◌∷◌, ◌++◌, Option, Some, None, refl, sym, ap, ◌∙◌, subst, inl, inr, arith, length, eqb-true, eq-eqb, lt-ltb}
+use Rattle.std.specs.Prelude.{◌||◌, ◌&&◌, ◌==◌, slice_get, nat_lt, map}
 use Rattle.argot_plain.specs.Lists.{In, here, there, member}
-use Rattle.argot_plain.specs.Code.{by_call, by_go, by_defer, Code, IsAt, IsFunction, IsEntry, IsIn, Next, Successor, successor, Defines, by_kind, by_entry, Hands, kind_of, defined, arguments, handed_values, parts_registers, param_of}
-use Rattle.argot_plain.specs.Counts.{is_sink, cleans}
-use Rattle.argot_plain.specs.Leak.{LooksInside, a_sink, an_external}
-use Rattle.argot_plain.specs.Machine.{is_of_type}
-use Rattle.argot_plain.specs.Nodes.{Mark, mark}
+use Rattle.argot_plain.specs.Code.{by_call, by_go, by_defer, Code, IsAt, Next, Successor, successor, Defines, by_kind, by_entry, Hands, kind_of, defined, handed_values, parts_registers}
 use Rattle.argot_plain.specs.declared.functions.Function.{Function}
 use Rattle.argot_plain.specs.declared.instructions.Callee.{Callee}
 use Rattle.argot_plain.specs.declared.instructions.Callee.TheVariants.{Static, Value, Method}
@@ -17,8 +13,8 @@ use Rattle.argot_plain.specs.declared.instructions.Kind.TheVariants.{Op, Move, J
 use Rattle.argot_plain.specs.declared.problems.Problem.{Problem}
 use Rattle.argot_plain.specs.declared.sites.Site.{Site}
 use Rattle.argot_text.specs.declared.path.PathStep.{PathStep}
-use Rattle.argot_facts.specs.Copies.{Copies, Takes, Lasts, last_here, last_there}
-use Rattle.argot_facts.specs.Reaching.{Reaches, next, on, DefinedAt}
+use Rattle.argot_facts.specs.Copies.{Takes, Lasts, last_here, last_there}
+use Rattle.argot_facts.specs.Reaching.{Reaches, next, on}
 use Rattle.argot_facts.specs.Refers.{Holds, Targets, target_static, target_value, target_method}
 
 -- lists

@@ -1,5 +1,5 @@
 -- Small facts, which evaluation shows: of sites, of what is about to be entered, and of what a value reaches.
-use Rattle.std.proofs.Common.{◌≡◌, ℕ, zero, suc, ◌<◌, Bool, true, false, not, Option, Some, None, [], ◌∷◌, List, refl, sym, ap, ◌∙◌, subst, eq-eqb, eqb-true, leb-true, ltb-true}
+use Rattle.std.proofs.Common.{◌≡◌, ℕ, zero, suc, ◌<◌, Bool, true, false, not, Option, Some, None, [], ◌∷◌, List, refl, ap, ◌∙◌, subst, eq-eqb, eqb-true, leb-true, ltb-true}
 use Rattle.std.specs.Prelude.{◌==◌, ◌&&◌, nat_le, nat_lt, slice_get, length}
 use Rattle.argot_plain.specs.Lists.{In, here, there}
 use Rattle.argot_plain.specs.Code.{Code, IsAt, IsSiteOf, kind_of}
@@ -7,7 +7,7 @@ use Rattle.argot_plain.specs.Counts.{is_sink}
 use Rattle.argot_plain.specs.Leak.{Leak, Enters, by_call, by_record, labelled}
 use Rattle.argot_plain.specs.Machine.{Datum, Scalar, Nil, Ref, Object, Cell, Slot, Deferred, Frame, State, Found}
 use Rattle.argot_plain.specs.Nodes.{Mark}
-use Rattle.argot_plain.specs.Outside.{by_number, Reached, direct, through, Bears, itself, inside, ArgumentBears, SomeArgumentBears, CarriesOn}
+use Rattle.argot_plain.specs.Outside.{by_number, Reached, direct, through, Bears, itself, inside, ArgumentBears, CarriesOn}
 use Rattle.argot_plain.specs.Step.{handing}
 use Rattle.argot_plain.specs.declared.instructions.Callee.TheVariants.{Static}
 use Rattle.argot_plain.specs.declared.instructions.Kind.{Kind}

@@ -3,7 +3,7 @@ use Rattle.std.proofs.Common.{refl}
 use Rattle.argot_plain.specs.Leak.{labelled}
 use Rattle.argot_plain.specs.Machine.{Labelling}
 use Rattle.argot_plain_worked_rules.specs.Worked.{entry_function}
-use Rattle.argot_plain_worked_rules.specs.SourcePlace.{source_place, body_read, ItLeaks, ItComesClean, ItLeaksAgain}
+use Rattle.argot_plain_worked_rules.specs.SourcePlace.{source_place, body_read, ItLeaks, ItComesClean, ItLeaksAgain, path_read, ItWouldLeak}
 use Rattle.argot_plain_worked_rules.proofs.Small.{leaks, cleanly}
 use Rattle.argot_plain_worked_rules.proofs.Ahead.{opened, gone_ahead}
 
@@ -19,3 +19,8 @@ it_runs =
       (_, b, cleanly source_place body_read _ 0 21 0 refl),
       (_, c, leaks source_place body_read _ 0 0 0 23 24 0 refl),
     )
+
+pub it_would : ItWouldLeak
+it_would =
+    let a = gone_ahead source_place (labelled path_read) 0 13 _ (opened source_place (labelled path_read) entry_function refl) in
+    (_, a, leaks source_place path_read _ 0 0 0 20 21 0 refl)

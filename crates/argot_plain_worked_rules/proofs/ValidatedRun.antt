@@ -3,7 +3,7 @@ use Rattle.std.proofs.Common.{[], ◌∷◌, refl}
 use Rattle.argot_plain.specs.Leak.{labelled}
 use Rattle.argot_plain.specs.Machine.{Labelling}
 use Rattle.argot_plain.specs.Step.{one_step, act_puts}
-use Rattle.argot_plain.specs.declared.instructions.Kind.TheVariants.{Branch, Passed}
+use Rattle.argot_plain.specs.declared.instructions.Kind.TheVariants.{Branch}
 use Rattle.argot_plain_worked_rules.specs.Worked.{asked, entry_function}
 use Rattle.argot_plain_worked_rules.specs.Validated.{validated, tested, ItComesClean, ItWouldLeak, ItLeaks}
 use Rattle.argot_plain_worked_rules.proofs.Small.{leaks, cleanly}

@@ -10,11 +10,11 @@ use Rattle.argot_plain_worked_rules.specs.Boxes.{boxes}
 use Rattle.argot_plain_worked_rules.specs.Sanitized.{sanitized}
 use Rattle.argot_plain_worked_rules.specs.Validated.{validated}
 use Rattle.argot_plain_worked_rules.specs.SourcePlace.{source_place}
-use Rattle.argot_plain_worked_rules.specs.Overwritten.{overwritten}
+use Rattle.argot_plain_worked_rules.specs.Overwritten.{overwritten, kept_program}
 use Rattle.argot_plain_worked_rules.specs.Shared.{shared}
 use Rattle.argot_plain_worked_rules.specs.Handed.{handed}
 use Rattle.argot_plain_worked_rules.specs.Twice.{twice}
-use Rattle.argot_plain_worked_rules.specs.Variables.{variables}
+use Rattle.argot_plain_worked_rules.specs.Variables.{variables, written_first}
 use Rattle.argot_plain_worked_rules.specs.TracedBack.{traced_program}
 
 pub slices_is_well : WellFormed slices
@@ -58,3 +58,9 @@ variables_is_well = passing_is_well variables refl
 
 pub traced_program_is_well : WellFormed traced_program
 traced_program_is_well = passing_is_well traced_program refl
+
+pub kept_program_is_well : WellFormed kept_program
+kept_program_is_well = passing_is_well kept_program refl
+
+pub written_first_is_well : WellFormed written_first
+written_first_is_well = passing_is_well written_first refl

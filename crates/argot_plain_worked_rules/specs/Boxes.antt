@@ -21,7 +21,7 @@ use Rattle.argot_plain.specs.declared.functions.Function.{Function}
 use Rattle.argot_plain.specs.declared.instructions.Callee.TheVariants.{Static}
 use Rattle.argot_plain.specs.declared.instructions.Kind.TheVariants.{Move, Join, New, Read, Write, Assert, Call, RunDefers, Leave, Goto}
 use Rattle.argot_text.specs.declared.path.PathStep.TheVariants.{Field}
-use Rattle.argot_plain_worked_rules.specs.Worked.{on, one_leaf, declared, program, site_at, asked, Leaks}
+use Rattle.argot_plain_worked_rules.specs.Worked.{on, one_leaf, declared, program, site_at, asked, Leaks, HasFlow, HasNoEdge}
 
 abbrev pub main_function : Function
 main_function = declared (codes "main") 3 14 30 0 0 (one_leaf ∷ [] ∷ one_leaf ∷ ((Field 0 ∷ []) ∷ []) ∷ one_leaf ∷ one_leaf ∷ ((Field 0 ∷ []) ∷ []) ∷ one_leaf ∷ one_leaf ∷ ((Field 0 ∷ []) ∷ []) ∷ one_leaf ∷ [])
@@ -42,3 +42,10 @@ ItIsWellFormed = WellFormed boxes
 -- the secret of line 6, the place 18, reaches the sink of line 8, the place 25
 abbrev pub ItLeaks : Type 0
 ItLeaks = Leaks boxes asked 18 25 0
+
+abbrev pub ItFlows : Type 0
+ItFlows = HasFlow boxes asked 18 25 0
+
+-- what line 8 takes out of its box comes to no argument of line 10: no edge leads there
+abbrev pub ItIsAnother : Type 0
+ItIsAnother = HasNoEdge boxes asked 24 0 29 0

@@ -19,7 +19,7 @@ use Rattle.argot_plain.specs.declared.functions.Function.{Function}
 use Rattle.argot_plain.specs.declared.instructions.Callee.TheVariants.{Static}
 use Rattle.argot_plain.specs.declared.instructions.Kind.TheVariants.{Read, Call, Go, Defer, RunDefers, Leave, Goto}
 use Rattle.argot_facts.specs.declared.graphs.EdgeKind.TheVariants.{Plain}
-use Rattle.argot_plain_worked_rules.specs.Worked.{HasEdge, on, one_leaf, declared, outside, program, site_at, asked, Leaks, ComesClean, Ends}
+use Rattle.argot_plain_worked_rules.specs.Worked.{HasEdge, on, one_leaf, declared, outside, program, site_at, asked, Leaks, ComesClean, Ends, HasNoEdge, HasFlow, HasNoFlow}
 
 abbrev pub main_function : Function
 main_function = declared (codes "main") 3 14 23 0 0 (one_leaf ∷ one_leaf ∷ one_leaf ∷ one_leaf ∷ [])
@@ -58,5 +58,15 @@ abbrev pub ItEnds : Type 0
 ItEnds = Ends externals asked
 
 -- what upper is handed comes to its result
+abbrev pub ItGoesThrough : Type 0
+ItGoesThrough = HasEdge externals asked 18 1 Plain 18 0
+
+-- what lookup is handed doesn't
+abbrev pub ItStaysOutside : Type 0
+ItStaysOutside = HasNoEdge externals asked 20 1 20 0
+
 abbrev pub ItFlows : Type 0
-ItFlows = HasEdge externals asked 18 1 Plain 18 0
+ItFlows = HasFlow externals asked 15 19 0
+
+abbrev pub ItFlowsNot : Type 0
+ItFlowsNot = HasNoFlow externals asked 15 22 0

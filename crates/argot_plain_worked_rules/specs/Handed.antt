@@ -17,7 +17,7 @@ use Rattle.argot_plain.specs.declared.functions.Function.{Function}
 use Rattle.argot_plain.specs.declared.instructions.Callee.TheVariants.{Static}
 use Rattle.argot_plain.specs.declared.instructions.Kind.TheVariants.{New, Write, Call, RunDefers, Leave, Goto}
 use Rattle.argot_facts.specs.declared.graphs.EdgeKind.TheVariants.{Reset}
-use Rattle.argot_plain_worked_rules.specs.Worked.{HasEdge, HasNoEdge, on, one_leaf, declared, program, site_at, asked, Leaks}
+use Rattle.argot_plain_worked_rules.specs.Worked.{HasEdge, HasNoEdge, on, one_leaf, declared, program, site_at, asked, Leaks, HasFlow, HasNoFlow}
 
 abbrev pub main_function : Function
 main_function = declared (codes "main") 3 14 23 0 0 (one_leaf ∷ one_leaf ∷ one_leaf ∷ one_leaf ∷ [])
@@ -44,3 +44,11 @@ ItIsInside = HasEdge handed asked 17 0 Reset 18 0
 -- what line 9 writes comes too late for the sink of line 8: no edge leads there
 abbrev pub ItComesTooLate : Type 0
 ItComesTooLate = HasNoEdge handed asked 22 0 20 0
+
+abbrev pub ItFlows : Type 0
+ItFlows = HasFlow handed asked 16 18 0
+
+-- and from line 9, the place 21, no flow leads to the sink of line 8. The lines 4 to 6 are the same in the other order: there
+-- the write is followed by the sink, and leaks
+abbrev pub ItFlowsNot : Type 0
+ItFlowsNot = HasNoFlow handed asked 21 20 0

@@ -14,7 +14,7 @@ use Rattle.argot_plain.specs.WellFormed.{WellFormed}
 use Rattle.argot_plain.specs.declared.functions.Function.{Function}
 use Rattle.argot_plain.specs.declared.instructions.Callee.TheVariants.{Static, Value}
 use Rattle.argot_plain.specs.declared.instructions.Kind.TheVariants.{Join, Call, Defer, RunDefers, Leave, Goto}
-use Rattle.argot_plain_worked_rules.specs.Worked.{on, one_leaf, declared, program, asked, Leaks, Ends}
+use Rattle.argot_plain_worked_rules.specs.Worked.{on, one_leaf, declared, program, asked, Leaks, Ends, HasFlow, HasNoEdge}
 
 abbrev pub main_function : Function
 main_function = declared (codes "main") 3 14 19 0 0 (one_leaf ∷ one_leaf ∷ [])
@@ -35,3 +35,10 @@ ItLeaks = Leaks nil_function asked 15 16 0
 
 abbrev pub ItEnds : Type 0
 ItEnds = Ends nil_function asked
+
+abbrev pub ItFlows : Type 0
+ItFlows = HasFlow nil_function asked 15 16 0
+
+-- and comes to nothing that line 7 hands on: no edge leads there
+abbrev pub ItIsNotHanded : Type 0
+ItIsNotHanded = HasNoEdge nil_function asked 15 0 18 0

@@ -19,7 +19,7 @@ use Rattle.argot_plain.specs.declared.functions.Function.{Function}
 use Rattle.argot_plain.specs.declared.instructions.Callee.TheVariants.{Static}
 use Rattle.argot_plain.specs.declared.instructions.Kind.TheVariants.{Op, Move, New, Read, Write, Call, RunDefers, Leave, Goto}
 use Rattle.argot_facts.specs.declared.graphs.EdgeKind.TheVariants.{Reset}
-use Rattle.argot_plain_worked_rules.specs.Worked.{HasEdge, HasNoEdge, on, one_leaf, declared, program, site_at, asked, ComesClean}
+use Rattle.argot_plain_worked_rules.specs.Worked.{HasEdge, HasNoEdge, on, one_leaf, declared, program, site_at, asked, ComesClean, HasFlow, HasNoFlow, Leaks}
 
 abbrev pub main_function : Function
 main_function = declared (codes "main") 3 14 26 0 0 (one_leaf ∷ one_leaf ∷ one_leaf ∷ one_leaf ∷ one_leaf ∷ one_leaf ∷ one_leaf ∷ [])
@@ -50,3 +50,32 @@ ItMayBeRead = HasEdge overwritten asked 21 0 Reset 24 0
 -- the secret of line 4 is gone from the register in line 6: no edge leads there
 abbrev pub ItIsGone : Type 0
 ItIsGone = HasNoEdge overwritten asked 15 0 18 0
+
+-- so the relation has no flow there
+abbrev pub ItFlowsNot : Type 0
+ItFlowsNot = HasNoFlow overwritten asked 15 18 0
+
+abbrev pub kept_function : Function
+kept_function = declared (codes "main") 3 14 22 0 0 (one_leaf ∷ one_leaf ∷ one_leaf ∷ one_leaf ∷ [])
+
+-- the same without the lines 5 and 9
+abbrev pub kept_program : Code
+kept_program =
+    program (kept_function ∷ [])
+    (on 3 (Goto 15) ∷ on 4 (Call (0 ∷ []) (Static 1) []) ∷ on 6 (Call [] (Static 2) (0 ∷ [])) ∷ on 7 (New 1 0)
+    ∷ on 8 (Call (2 ∷ []) (Static 1) []) ∷ on 8 (Write 1 2) ∷ on 10 (Read 3 1 one_leaf) ∷ on 10 (Call [] (Static 2) (3 ∷ []))
+    ∷ on 11 RunDefers ∷ on 11 (Leave []) ∷ [])
+    (site_at 17 one_leaf ∷ [])
+
+-- without line 5 the secret of line 4 would have leaked in line 6, and without line 9 that of line 8 in line 10
+abbrev pub ItWouldLeak : Type 0
+ItWouldLeak = Leaks kept_program asked 15 16 0
+
+abbrev pub ItWouldLeakAgain : Type 0
+ItWouldLeakAgain = Leaks kept_program asked 18 21 0
+
+abbrev pub ItIsKeptWell : Type 0
+ItIsKeptWell = WellFormed kept_program
+
+abbrev pub ItWouldFlow : Type 0
+ItWouldFlow = HasFlow kept_program asked 15 16 0

@@ -15,7 +15,7 @@ use Rattle.argot_plain.specs.declared.functions.Function.{Function}
 use Rattle.argot_plain.specs.declared.instructions.Callee.TheVariants.{Static}
 use Rattle.argot_plain.specs.declared.instructions.Kind.TheVariants.{Move, Call, RunDefers, Leave, Goto}
 use Rattle.argot_plain.specs.declared.problems.Problem.{Problem}
-use Rattle.argot_plain_worked_rules.specs.Worked.{HasNoEdge, on, one_leaf, declared, program, asked, Leaks, ComesClean}
+use Rattle.argot_plain_worked_rules.specs.Worked.{HasNoEdge, on, one_leaf, declared, program, asked, Leaks, ComesClean, HasFlow, HasNoFlow}
 
 abbrev pub main_function : Function
 main_function = declared (codes "main") 3 14 19 0 0 (one_leaf ∷ one_leaf ∷ [])
@@ -52,3 +52,13 @@ ItLeaks = Leaks sanitized cleaned 15 18 0
 -- what sanitize hands back comes to no result: no edge leads there
 abbrev pub ItIsCut : Type 0
 ItIsCut = HasNoEdge sanitized cleaned 24 0 16 0
+
+abbrev pub ItFlows : Type 0
+ItFlows = HasFlow sanitized cleaned 15 18 0
+
+-- so the relation has no flow to line 5, which it had if sanitize were no sanitizer
+abbrev pub ItFlowsNot : Type 0
+ItFlowsNot = HasNoFlow sanitized cleaned 15 17 0
+
+abbrev pub ItWouldFlow : Type 0
+ItWouldFlow = HasFlow sanitized asked 15 17 0

@@ -20,7 +20,7 @@ use Rattle.argot_plain.specs.declared.instructions.Callee.TheVariants.{Static}
 use Rattle.argot_plain.specs.declared.instructions.Kind.TheVariants.{Op, Join, Step, Read, Grow, Call, RunDefers, Leave, Goto}
 use Rattle.argot_text.specs.declared.path.PathStep.TheVariants.{Element}
 use Rattle.argot_facts.specs.declared.graphs.EdgeKind.TheVariants.{Plain}
-use Rattle.argot_plain_worked_rules.specs.Worked.{HasEdge, HasNoEdge, on, one_leaf, declared, program, site_at, asked, Leaks}
+use Rattle.argot_plain_worked_rules.specs.Worked.{HasEdge, HasNoEdge, on, one_leaf, declared, program, site_at, asked, Leaks, HasFlow, HasNoFlow}
 
 abbrev pub main_function : Function
 main_function = declared (codes "main") 3 14 27 0 0 (one_leaf ∷ one_leaf ∷ one_leaf ∷ one_leaf ∷ one_leaf ∷ one_leaf ∷ one_leaf ∷ one_leaf ∷ one_leaf ∷ one_leaf ∷ one_leaf ∷ [])
@@ -48,3 +48,15 @@ ItCopiesElements = HasEdge slices asked 21 2 Plain 21 1
 -- what line 10 adds comes too late for the read of line 9: no edge leads there
 abbrev pub ItComesTooLate : Type 0
 ItComesTooLate = HasNoEdge slices asked 26 1 23 0
+
+-- and not with those that line 7 adds
+abbrev pub ItKeepsApart : Type 0
+ItKeepsApart = HasNoEdge slices asked 21 2 20 1
+
+-- the relation has the flow of line 6
+abbrev pub ItFlows : Type 0
+ItFlows = HasFlow slices asked 17 24 0
+
+-- and none from line 10, the place 25
+abbrev pub ItFlowsNot : Type 0
+ItFlowsNot = HasNoFlow slices asked 25 24 0

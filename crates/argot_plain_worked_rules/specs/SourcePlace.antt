@@ -18,7 +18,7 @@ use Rattle.argot_plain.specs.declared.instructions.Callee.TheVariants.{Static}
 use Rattle.argot_plain.specs.declared.instructions.Kind.TheVariants.{Move, New, Step, Read, Call, RunDefers, Leave, Goto}
 use Rattle.argot_plain.specs.declared.problems.Problem.{Problem}
 use Rattle.argot_text.specs.declared.path.PathStep.TheVariants.{Field}
-use Rattle.argot_plain_worked_rules.specs.Worked.{HasNoEdge, on, one_leaf, declared, program, site_at, asked, Leaks, ComesClean}
+use Rattle.argot_plain_worked_rules.specs.Worked.{HasNoEdge, on, one_leaf, declared, program, site_at, asked, Leaks, ComesClean, HasFlow, HasNoFlow}
 
 abbrev pub main_function : Function
 main_function = declared (codes "main") 3 14 25 0 0 (one_leaf ∷ one_leaf ∷ one_leaf ∷ one_leaf ∷ one_leaf ∷ ((Field 0 ∷ []) ∷ (Field 1 ∷ []) ∷ []) ∷ one_leaf ∷ [])
@@ -51,3 +51,16 @@ ItLeaksAgain = Leaks source_place body_read 23 24 0
 -- the field body comes to no sink of the field path: no edge leads there
 abbrev pub ItIsAnother : Type 0
 ItIsAnother = HasNoEdge source_place body_read 17 0 21 0
+
+-- the field path would leak if it were a source: the Read of the place 20
+abbrev pub path_read : Problem
+path_read = record asked { source_places = (20, codes "path") ∷ [] }
+
+abbrev pub ItWouldLeak : Type 0
+ItWouldLeak = Leaks source_place path_read 20 21 0
+
+abbrev pub ItFlows : Type 0
+ItFlows = HasFlow source_place body_read 17 18 0
+
+abbrev pub ItFlowsNot : Type 0
+ItFlowsNot = HasNoFlow source_place body_read 17 21 0

@@ -20,7 +20,8 @@ use Rattle.argot_plain.specs.declared.functions.Function.{Function}
 use Rattle.argot_plain.specs.declared.instructions.Callee.TheVariants.{Static}
 use Rattle.argot_plain.specs.declared.instructions.Kind.TheVariants.{Op, Call, RunDefers, Leave, Goto}
 use Rattle.argot_plain.specs.declared.problems.Problem.{Problem}
-use Rattle.argot_plain_worked_rules.specs.Worked.{HasNoEdge, IsReached, on, one_leaf, declared, program, asked}
+use Rattle.argot_facts.specs.declared.graphs.EdgeKind.TheVariants.{Plain}
+use Rattle.argot_plain_worked_rules.specs.Worked.{HasNoEdge, IsReached, on, one_leaf, declared, program, asked, HasEdge}
 
 abbrev pub main_function : Function
 main_function = declared (codes "main") 3 14 20 0 0 (one_leaf ∷ one_leaf ∷ one_leaf ∷ [])
@@ -49,3 +50,7 @@ ItComesToThePoint = (x : State) × IsReached traced_program (traced pointed at_t
 -- the text of line 4 comes to no argument of line 7: no edge leads there
 abbrev pub ItIsAnother : Type 0
 ItIsAnother = HasNoEdge traced_program (traced_back pointed) 15 0 19 0
+
+-- it comes to the sum of line 5
+abbrev pub ItIsAdded : Type 0
+ItIsAdded = HasEdge traced_program (traced_back pointed) 15 0 Plain 16 0

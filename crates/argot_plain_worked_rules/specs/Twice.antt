@@ -15,7 +15,7 @@ use Rattle.argot_plain.specs.WellFormed.{WellFormed}
 use Rattle.argot_plain.specs.declared.functions.Function.{Function}
 use Rattle.argot_plain.specs.declared.instructions.Callee.TheVariants.{Static}
 use Rattle.argot_plain.specs.declared.instructions.Kind.TheVariants.{Op, Move, Call, RunDefers, Leave, Goto}
-use Rattle.argot_plain_worked_rules.specs.Worked.{on, one_leaf, declared, program, asked, Leaks, ComesClean}
+use Rattle.argot_plain_worked_rules.specs.Worked.{on, one_leaf, declared, program, asked, Leaks, ComesClean, HasFlow, HasNoFlow}
 
 abbrev pub main_function : Function
 main_function = declared (codes "main") 3 14 21 0 0 (one_leaf ∷ one_leaf ∷ one_leaf ∷ one_leaf ∷ [])
@@ -41,3 +41,10 @@ ItLeaks = Leaks twice asked 15 19 0
 -- and not that of line 7, the place 20
 abbrev pub ItComesClean : Type 0
 ItComesClean = ComesClean twice asked 20 0
+
+abbrev pub ItFlows : Type 0
+ItFlows = HasFlow twice asked 15 19 0
+
+-- what goes into the function by the first call doesn't come back by the second one
+abbrev pub ItFlowsNot : Type 0
+ItFlowsNot = HasNoFlow twice asked 15 20 0

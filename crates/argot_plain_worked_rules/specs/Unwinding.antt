@@ -14,7 +14,7 @@ use Rattle.argot_plain.specs.WellFormed.{WellFormed}
 use Rattle.argot_plain.specs.declared.functions.Function.{Function}
 use Rattle.argot_plain.specs.declared.instructions.Callee.TheVariants.{Static}
 use Rattle.argot_plain.specs.declared.instructions.Kind.TheVariants.{Call, Defer, RunDefers, Leave, Goto, Panic}
-use Rattle.argot_plain_worked_rules.specs.Worked.{HasNoEdge, on, one_leaf, declared, program, asked, Leaks, Ends}
+use Rattle.argot_plain_worked_rules.specs.Worked.{HasNoEdge, on, one_leaf, declared, program, asked, Leaks, Ends, HasFlow, HasNoFlow}
 
 abbrev pub main_function : Function
 main_function = declared (codes "main") 3 14 17 0 0 (one_leaf ∷ [])
@@ -51,3 +51,13 @@ ItMayEndEarly = Ends unwinding asked
 -- the secret that the panic takes along comes to no argument: no edge leads there
 abbrev pub ItIsNotHanded : Type 0
 ItIsNotHanded = HasNoEdge unwinding asked 25 0 20 0
+
+-- what line 3 hands to outer comes to no parameter of sink: no edge leads there
+abbrev pub ItEntersAnother : Type 0
+ItEntersAnother = HasNoEdge unwinding asked 16 0 11 0
+
+abbrev pub ItFlows : Type 0
+ItFlows = HasFlow unwinding asked 15 20 0
+
+abbrev pub ItFlowsNot : Type 0
+ItFlowsNot = HasNoFlow unwinding asked 25 20 0

@@ -18,7 +18,7 @@ use Rattle.argot_plain.specs.declared.functions.Function.{Function}
 use Rattle.argot_plain.specs.declared.instructions.Callee.TheVariants.{Static}
 use Rattle.argot_plain.specs.declared.instructions.Kind.TheVariants.{Op, Move, Call, RunDefers, Leave, Goto, Branch, Passed}
 use Rattle.argot_plain.specs.declared.problems.Problem.{Problem}
-use Rattle.argot_plain_worked_rules.specs.Worked.{on, one_leaf, declared, program, asked, Leaks, ComesClean}
+use Rattle.argot_plain_worked_rules.specs.Worked.{on, one_leaf, declared, program, asked, Leaks, ComesClean, HasFlow, HasNoFlow}
 
 abbrev pub main_function : Function
 main_function = declared (codes "main") 3 14 22 0 0 (one_leaf ∷ one_leaf ∷ [])
@@ -51,3 +51,13 @@ ItWouldLeak = Leaks validated asked 15 19 0
 -- and it leaks at the sink of line 8, the place 21
 abbrev pub ItLeaks : Type 0
 ItLeaks = Leaks validated tested 15 21 0
+
+abbrev pub ItFlows : Type 0
+ItFlows = HasFlow validated tested 15 21 0
+
+-- the relation has no flow to line 6, which it had if validate were no validator
+abbrev pub ItFlowsNot : Type 0
+ItFlowsNot = HasNoFlow validated tested 15 19 0
+
+abbrev pub ItWouldFlow : Type 0
+ItWouldFlow = HasFlow validated asked 15 19 0

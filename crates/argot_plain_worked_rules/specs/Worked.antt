@@ -1,5 +1,5 @@
 -- What worked programs are made of, and what is said of them.
-use Rattle.std.specs.Prelude.{◌≡◌, ℕ, ◌+◌, ◌<◌, Bool, true, false, List, [], ◌∷◌, Option, Some, None, slice_get, codes}
+use Rattle.std.specs.Prelude.{◌≡◌, ℕ, ◌+◌, ◌<◌, Bool, true, false, List, [], ◌∷◌, Some, None, codes}
 use Rattle.argot_plain.specs.Code.{Code}
 use Rattle.argot_plain.specs.Counts.{is_sink}
 use Rattle.argot_plain.specs.Leak.{Leak, Enters, labelled}
@@ -16,6 +16,7 @@ use Rattle.argot_plain.specs.declared.instructions.Kind.TheVariants.{Branch, Cal
 use Rattle.argot_plain.specs.declared.problems.Problem.{Problem}
 use Rattle.argot_plain.specs.declared.sites.Site.{Site}
 use Rattle.argot_text.specs.declared.position.Pos.{Pos}
+use Rattle.argot_facts.specs.Flows.{Flow, EscapeOf}
 use Rattle.argot_facts.specs.Graphs.{IsEdge}
 use Rattle.argot_facts.specs.declared.graphs.EdgeKind.{EdgeKind}
 use Rattle.argot_facts.specs.declared.nodes.Node.{Node}
@@ -167,3 +168,15 @@ HasEdge p pr d j kind i k = IsEdge p pr (node d j) kind (node i k)
 -- and none between these
 abbrev pub HasNoEdge : Code → Problem → ℕ → ℕ → ℕ → ℕ → Type 0
 HasNoEdge p pr d j i k = (kind : EdgeKind) → IsEdge p pr (node d j) kind (node i k) → ⊥
+
+-- the relation has this flow, from the source place s to the argument k of the sink place t
+abbrev pub HasFlow : Code → Problem → ℕ → ℕ → ℕ → Type 0
+HasFlow p pr s t k = Flow p pr s t k
+
+-- and none there
+abbrev pub HasNoFlow : Code → Problem → ℕ → ℕ → ℕ → Type 0
+HasNoFlow p pr s t k = Flow p pr s t k → ⊥
+
+-- the relation has this escape, from the source place s to objects of the site
+abbrev pub HasEscape : Code → Problem → ℕ → ℕ → Type 0
+HasEscape p pr s site = EscapeOf p pr s site
