@@ -1,6 +1,6 @@
 #!/bin/sh
-# Runs files that are as deep as they are long, or nested as far as a file may be, under a stack of 1 MiB, and prints for each
-# form the processor seconds for so many bytes and for twice as many: a form costs about what its size costs, and no call is
+# Runs files that are as deep as they are long, or nested as far as a file may be, and folders that are long for names, under
+# a stack of 1 MiB, and prints for each form the processor seconds for so many bytes and for twice as many: a form costs about what its size costs, and no call is
 # as deep as a file is long. A line ends in 'ENDED BY SIGNAL' where a program was, and the script's status is then 1.
 # It installs nothing.
 # usage: bench/hostile.sh [BYTES [ARGOT_SHOW [ARGOT_NAMES_SHOW]]]
@@ -74,6 +74,34 @@ forms = [
     ("not closed: T{", value("", "T{", "")),
 ]
 
+# folders that are long for names: a name that a list has again and again, and is used as often; types each made from the
+# next; packages in a chain, of which the last imports the one before it
+def of_main(text):
+    return "example.org/app\n-- main.go --\npackage main\n\n" + text
+
+def parameters(n):
+    count = n // 10
+    return of_main("func f(" + ", ".join(["a"] * count) + " int) {\n" + "\t_ = a\n" * count + "}\n")
+
+def types(n):
+    count = n // 34
+    return of_main("".join("type t%06d struct{ next t%06d }\n" % (at, at + 1) for at in range(count)) + "type t%06d int\n" % count)
+
+def packages(n):
+    count = n // 70
+    files = [("go.mod", "module example.org/app\n")]
+    files.append(("main.go", "package main\n\nimport _ \"example.org/app/p000000\"\n\nfunc main() {}\n"))
+    for at in range(count):
+        next_ = at + 1 if at + 1 < count else at - 1
+        files.append(("p%06d/a.go" % at, "package p\n\nimport _ \"example.org/app/p%06d\"\n" % next_))
+    return "\n".join(["example.org/app"] + ["-- %s --\n%s" % file for file in files])
+
+folders = [
+    ("names: parameters of one name", parameters),
+    ("names: types from the next one", types),
+    ("names: a chain of packages with a cycle at its end", packages),
+]
+
 def limited():
     resource.setrlimit(resource.RLIMIT_STACK, (1 << 20, resource.RLIM_INFINITY))
 
@@ -83,15 +111,13 @@ def run(program, words, where):
     after = resource.getrusage(resource.RUSAGE_CHILDREN)
     return ended.returncode, after.ru_utime + after.ru_stime - before.ru_utime - before.ru_stime
 
-def timed(program, words, where):
+def timed(program, words, where, file, make):
     if not os.access(program, os.X_OK):
         return "-", False
     told, killed = [], False
     for n in (size, 2 * size):
-        with open(folder + "/main.go", "w") as to:
+        with open(folder + "/" + file, "w") as to:
             to.write(make(n))
-        with open(folder + "/folder.txt", "w") as to:
-            to.write("example.org/app\n-- main.go --\n" + make(n))
         status, seconds = run(program, words, where)
         killed |= status < 0
         told.append("%.2f" % seconds if status >= 0 else "ENDED BY SIGNAL %d" % -status)
@@ -100,9 +126,13 @@ def timed(program, words, where):
 print("form: seconds for %d and for %d bytes: the tree; names (and the tree)" % (size, 2 * size))
 bad = False
 for form, make in forms:
-    tree, first = timed(show, ["tree", "-count", "main.go"], folder)
-    resolved, second = timed(names, ["-count"], folder)
+    tree, first = timed(show, ["tree", "-count", "main.go"], folder, "main.go", make)
+    resolved, second = timed(names, ["-count"], folder, "folder.txt", lambda n: "example.org/app\n-- main.go --\n" + make(n))
     bad |= first or second
     print("%s: %s; %s" % (form, tree, resolved), flush=True)
+for form, make in folders:
+    resolved, killed = timed(names, ["-count"], folder, "folder.txt", make)
+    bad |= killed
+    print("%s: -; %s" % (form, resolved), flush=True)
 sys.exit(1 if bad else 0)
 PYTHON
