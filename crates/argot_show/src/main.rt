@@ -27,6 +27,9 @@ use std::io::ErrorKind;
 use std::process::ExitCode;
 use std::rt::Env;
 
+#[cfg(test)]
+mod deep_tests;
+
 fn main(rt: HostRuntime) -> ExitCode {
     let alloc = rt.alloc();
     let status = match words_of(&rt, alloc) {
