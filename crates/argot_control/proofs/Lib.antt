@@ -1,2 +1,4 @@
 pub mod Behind
 pub mod Straight
+pub mod Led
+pub mod Between

@@ -3,7 +3,15 @@
 //! the other. So which place may come after which (`argot_facts`, `specs/Follows.antt`) is a look-up by block.
 //!
 //! `specs/Blocks.antt` has the definitions, and the laws here say that they are right over any handed facts, and which places
-//! are inner ones. The calls that make the blocks and rows of a program, and answer the look-up, aren't there yet.
+//! are inner ones. `rows_of` gives for each block exactly the blocks to which it leads by steps that it is handed
+//! (`specs/Steps.antt`): it goes over the steps until no row changes, joins rows by words, and takes a bit for each pair of
+//! blocks. The calls that number the blocks and list the steps of a program, and answer the look-up, aren't there yet.
 #![tactic(auto)]
 
 pub mod laws;
+mod rows;
+
+pub use rows::rows_of;
+
+#[cfg(test)]
+mod tests;
