@@ -19,7 +19,7 @@ use Rattle.argot_names_imports.proofs.Surveys.{owned, one_owner, first_owned, fi
 use Rattle.argot_names_imports.proofs.ReachedFrom.{edge_proper, reached_proper}
 use Rattle.argot_names_imports.proofs.Standing.{first_is_one, reached_leader, target_is, is_target}
 use Rattle.argot_names_packages.specs.Spots.{spot_in, IsAt}
-use Rattle.argot_names_packages.specs.Ranks.{rank_of}
+use Rattle.argot_names_packages.specs.Ranks.{rank_of, FallsFrom}
 use Rattle.argot_names_packages.specs.Cycles.{IsStepAt, IsCycleAt}
 use Rattle.argot_names_packages.proofs.Led.{begins_at, at_begins}
 
@@ -195,24 +195,29 @@ module _ (h : SourceFiles) (main : List ℕ) (s : Survey) (is : IsSurvey h main 
           },
         )
 
-    -- where ranks fall there is no cycle
-    module _ (ranks : List ℕ) (fall : (l t : ℕ) → l < length s.leaders.items → In l s.reached.keys → Leads lists l t → rank_of ranks t < rank_of ranks l) where
+    -- where ranks fall no import of a package with a rank is on a cycle
+    module _ (ranks : List ℕ) (fall : (l : ℕ) → l < length s.leaders.items → In l s.reached.keys → FallsFrom lists ranks l) where
       key_below : (l : ℕ) → In l s.reached.keys → l < length s.leaders.items
       key_below l i =
           let r = (is.reached l).0 i in
           get_below s.leaders.items l (Some l) ((is.leaders l l).1 (record { home = r.home; owned = owned h r.home l (reached_proper h main r.home r.reached) r.leads.is; leads = r.leads }))
 
-      lower : (x t : ℕ) → In x s.reached.keys → Reaches lists x t → In t s.reached.keys × (rank_of ranks t ≤ rank_of ranks x)
-      lower x _ i stay = (i, omega arith)
-      lower x _ i (onward {between = b} {to = t} before edge) =
-          let r = lower x b i before in
+      path_reached : (x t : ℕ) → In x s.reached.keys → Reaches lists x t → In t s.reached.keys
+      path_reached x _ i stay = i
+      path_reached x _ i (onward {between = b} {to = t} before edge) =
           let st = (steps b t).0 edge in
-          (step_reached st.0 b t (record { step = st.1; reached = r.0 }), omega (arith, r.1, fall b t (key_below b r.0) r.0 edge))
+          step_reached st.0 b t (record { step = st.1; reached = path_reached x b i before })
 
-      pub no_cycle : (place : Place) → IsOnCycle h main place → ⊥
-      no_cycle place p =
-          let c = cycle_there h.lexed refl place p in
-          let m = c.1 in
-          let edge : Leads lists m.from m.to = (steps m.from m.to).1 (c.0, m.step.step) in
-          let back = lower m.to m.from (step_reached c.0 m.from m.to m.step) m.back in
-          omega (arith, back.1, fall m.from m.to (key_below m.from m.step.reached) m.step.reached edge)
+      lower : (x t : ℕ) → In x s.reached.keys → Reaches lists x t → 0 < rank_of ranks t → rank_of ranks t ≤ rank_of ranks x
+      lower x _ i stay some = omega arith
+      lower x _ i (onward {between = b} {to = t} before edge) some =
+          let r = path_reached x b i before in
+          let f = fall b (key_below b r) r t edge some in
+          omega (arith, f, lower x b i before (omega (arith, f)))
+
+      pub ranked : (k from to : ℕ) → IsStepAt s k from to → 0 < rank_of ranks from → Reaches lists to from → ⊥
+      ranked k from to st some back =
+          let edge : Leads lists from to = (steps from to).1 (k, st.step) in
+          let high = lower to from (step_reached k from to st) back some in
+          let low = fall from (key_below from st.reached) st.reached to edge (omega (arith, high, some)) in
+          omega (arith, high, low)

@@ -37,6 +37,13 @@ module _ (s : Survey) (lexed : List Lexed) (lists : List (List ℕ)) (k : ℕ) w
   pub no_step : ((from to : ℕ) → IsStepAt s k from to → ⊥) → (o : Option Spot) → IsLeast (IsBelow (IsCycleAt s lexed lists) k) o → IsLeast (IsBelow (IsCycleAt s lexed lists) (k + 1)) o
   no_step none o is = least_kept (IsCycleAt s lexed lists) k o is (λ place m. absurd (none m.from m.to m.step))
 
+  pub not_back : (from to : ℕ) → IsStepAt s k from to → (Reaches lists to from → ⊥) → (o : Option Spot) → IsLeast (IsBelow (IsCycleAt s lexed lists) k) o → IsLeast (IsBelow (IsCycleAt s lexed lists) (k + 1)) o
+  not_back from to st none o is =
+      least_kept (IsCycleAt s lexed lists) k o is
+      (λ place m.
+      let same = one_step s k m.from m.to from to m.step st in
+      absurd (none (subst (λ a. Reaches lists a from) same.to (subst (λ b. Reaches lists m.to b) same.from m.back))))
+
   module _ (w : Written) (there : slice_get s.imports.items k ≡ Some w) where
     spot_is : (place : Place) → IsCycleAt s lexed lists k place → IsAt (spot_in lexed w.file w.at) place
     spot_is place m = subst (λ (v : Written). IsAt (spot_in lexed v.file v.at) place) (some_is m.import_ w (sym m.is_import ∙ there)) m.begins
@@ -52,13 +59,6 @@ module _ (s : Survey) (lexed : List Lexed) (lists : List (List ℕ)) (k : ℕ) w
       later o e is =
           let b = not_first spot o e in
           least_kept (IsCycleAt s lexed lists) k o is (λ place m. (b.0, b.1, λ l. b.2 (subst (λ p. IsBefore p (place_of b.0)) (sym (only place m)) l)))
-
-      pub not_back : (from to : ℕ) → IsStepAt s k from to → (Reaches lists to from → ⊥) → (o : Option Spot) → IsLeast (IsBelow (IsCycleAt s lexed lists) k) o → IsLeast (IsBelow (IsCycleAt s lexed lists) (k + 1)) o
-      not_back from to st none o is =
-          least_kept (IsCycleAt s lexed lists) k o is
-          (λ place m.
-          let same = one_step s k m.from m.to from to m.step st in
-          absurd (none (subst (λ a. Reaches lists a from) same.to (subst (λ b. Reaches lists m.to b) same.from m.back))))
 
       pub on_cycle : (from to : ℕ) → IsStepAt s k from to → Reaches lists to from → (o : Option Spot) → comes_first spot o ≡ true → IsLeast (IsBelow (IsCycleAt s lexed lists) k) o → IsLeast (IsBelow (IsCycleAt s lexed lists) (k + 1)) (Some spot)
       on_cycle from to st back o e is =

@@ -6,6 +6,7 @@ use Rattle.argot_names_rules.specs.Lists.{In}
 use Rattle.argot_names_imports.specs.declared.written.Written.{Written}
 use Rattle.argot_names_imports.specs.declared.survey.Survey.{Survey}
 use Rattle.argot_names_imports.specs.Graph.{IsStep, Reaches}
+use Rattle.argot_names_packages.specs.declared.cycles.Search.{Search}
 use Rattle.argot_names_packages.specs.Spots.{spot_in, IsAt}
 
 -- the import of this number is one of a package that is reached, by first files
@@ -22,3 +23,7 @@ pub record IsCycleAt (s : Survey) (lexed : List Lexed) (lists : List (List ℕ))
   pub step : IsStepAt s k from to
   pub back : Reaches lists to from
   pub begins : IsAt (spot_in lexed import_.file import_.at) place
+
+-- the same, of what is searched
+abbrev pub IsCycleOf : Search → ℕ → Place → Type 0
+IsCycleOf s = IsCycleAt s.survey.now s.lexed.now s.graph.now.lists

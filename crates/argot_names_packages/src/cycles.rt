@@ -5,9 +5,10 @@ ghost use Rattle.argot_names_rules.specs.Faults.{IsOnCycle};
 ghost use Rattle.argot_names_imports.specs.Surveyed.{IsSurvey};
 ghost use Rattle.argot_names_imports.specs.Graph.{IsStep, Leads, Reaches};
 ghost use Rattle.argot_names_packages.specs.Spots.{IsAt, IsLeast, IsBelow};
-ghost use Rattle.argot_names_packages.specs.Cycles.{IsStepAt, IsCycleAt};
+ghost use Rattle.argot_names_packages.specs.Cycles.{IsStepAt, IsCycleAt, IsCycleOf};
+ghost use Rattle.argot_names_packages.specs.Ranks.{rank_of};
 
-use crate::falling::all_fall;
+use crate::falling::{falling, rank_of};
 use crate::ranks::ranks_of;
 use crate::spot::{is_first, spot_at};
 use crate::standing::{has, reached_leader};
@@ -53,34 +54,48 @@ fn leads_back(alloc: Global, graph: &Chains, from: u32, to: u32) -> Result<bool,
     Ok(has(&reached, to))
 }
 
-// The least place so far, or the next import's where that stands before it and is on a cycle.
+/// Where a cycle is searched: the imports, the tokens of the files, the graph of packages, and ranks of packages.
+#[derive(Clone, Copy)]
+struct Search<'a> {
+    survey: &'a Survey,
+    lexed: &'a [Lexed],
+    graph: &'a Chains,
+    ranks: &'a [u32],
+}
+
+// The least place so far, or the next import's where that stands before it and is on a cycle. No import of a package with a
+// rank is on one, so that it isn't tried.
 fn next_cycle(
     alloc: Global,
-    survey: &Survey,
-    lexed: &[Lexed],
-    graph: &Chains,
+    search: &Search,
     least: Option<Place>,
     k: usize,
 ) -> Result<Option<Place>, Memory>
-    requires imports { k < length survey.now.imports.items }
-    requires founds { k < length survey.now.founds.items }
-    requires small { length graph.now.lists < 2 ^ 32 }
-    requires targets { (from to : ℕ) → IsStepAt survey.now k from to → to < length graph.now.lists }
-    requires below { (l t : ℕ) → Leads graph.now.lists l t → t < length graph.now.lists }
-    ensures { IsLeast (IsBelow (IsCycleAt survey.now lexed.now graph.now.lists) k) least
-        → IfOk result (IsLeast (IsBelow (IsCycleAt survey.now lexed.now graph.now.lists) (k + 1))) }
+    requires imports { k < length search.now.survey.now.imports.items }
+    requires founds { k < length search.now.survey.now.founds.items }
+    requires small { length search.now.graph.now.lists < 2 ^ 32 }
+    requires targets { (from to : ℕ) → IsStepAt search.now.survey.now k from to
+        → to < length search.now.graph.now.lists }
+    requires below { (l t : ℕ) → Leads search.now.graph.now.lists l t → t < length search.now.graph.now.lists }
+    requires ranked { (from to : ℕ) → IsStepAt search.now.survey.now k from to
+        → 0 < rank_of search.now.ranks.now from → Reaches search.now.graph.now.lists to from → ⊥ }
+    ensures { IsLeast (IsBelow (IsCycleOf search.now) k) least
+        → IfOk result (IsLeast (IsBelow (IsCycleOf search.now) (k + 1))) }
 {
-    let Some(step) = step_at(survey, k) else {
+    let Some(step) = step_at(search.survey, k) else {
         return Ok(least);
     };
-    let import = import_at(&survey.imports, k);
-    let Some(spot) = spot_at(lexed, import.file, import.at) else {
+    if rank_of(search.ranks, step.from) > 0 {
+        return Ok(least);
+    }
+    let import = import_at(&search.survey.imports, k);
+    let Some(spot) = spot_at(search.lexed, import.file, import.at) else {
         return Ok(least);
     };
     if !is_first(spot, least) {
         return Ok(least);
     }
-    if leads_back(alloc, graph, step.to, step.from)? {
+    if leads_back(alloc, search.graph, step.to, step.from)? {
         Ok(Some(spot))
     } else {
         Ok(least)
@@ -88,22 +103,19 @@ fn next_cycle(
 }
 
 // The first import on a cycle, each import tried until one is found.
-fn first_cycle(
-    alloc: Global,
-    survey: &Survey,
-    lexed: &[Lexed],
-    graph: &Chains,
-) -> Result<Option<Place>, Memory>
-    requires as_many { length survey.now.founds.items ≡ length survey.now.imports.items }
-    requires small { length graph.now.lists < 2 ^ 32 }
-    requires targets { (k from to : ℕ) → IsStepAt survey.now k from to → to < length graph.now.lists }
-    requires below { (l t : ℕ) → Leads graph.now.lists l t → t < length graph.now.lists }
-    ensures { IfOk result (IsLeast (IsBelow (IsCycleAt survey.now lexed.now graph.now.lists)
-        (length survey.now.imports.items))) }
+fn first_cycle(alloc: Global, search: &Search) -> Result<Option<Place>, Memory>
+    requires as_many { length search.now.survey.now.founds.items ≡ length search.now.survey.now.imports.items }
+    requires small { length search.now.graph.now.lists < 2 ^ 32 }
+    requires targets { (k from to : ℕ) → IsStepAt search.now.survey.now k from to
+        → to < length search.now.graph.now.lists }
+    requires below { (l t : ℕ) → Leads search.now.graph.now.lists l t → t < length search.now.graph.now.lists }
+    requires ranked { (k from to : ℕ) → IsStepAt search.now.survey.now k from to
+        → 0 < rank_of search.now.ranks.now from → Reaches search.now.graph.now.lists to from → ⊥ }
+    ensures { IfOk result (IsLeast (IsBelow (IsCycleOf search.now) (length search.now.survey.now.imports.items))) }
 {
     let mut least = None;
-    for k in 0..survey.imports.len() {
-        least = next_cycle(alloc, survey, lexed, graph, least, k)?;
+    for k in 0..search.survey.imports.len() {
+        least = next_cycle(alloc, search, least, k)?;
     }
     Ok(least)
 }
@@ -122,8 +134,12 @@ pub fn cycle(alloc: Global, survey: &Survey, lexed: &[Lexed]) -> Result<Option<P
     };
     let graph = graph_of(alloc, &survey.leaders, &survey.imports, &survey.founds)?;
     let ranks = ranks_of(alloc, &graph, &survey.reached, start, count)?;
-    if all_fall(&graph, &survey.reached, &ranks, count) {
-        return Ok(None);
-    }
-    first_cycle(alloc, survey, lexed, &graph)
+    let ranks = falling(&graph, &survey.reached, &ranks, count);
+    let search = Search {
+        survey,
+        lexed,
+        graph: &graph,
+        ranks,
+    };
+    first_cycle(alloc, &search)
 }

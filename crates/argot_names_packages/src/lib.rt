@@ -3,8 +3,8 @@
 //! `reach` meets `IsReach` of argot_names_imports where nothing is wrong, and `Refuses` of argot_names_rules where something
 //! is, each fault at its first place, in this order: no main function (`has_main`), two names in one folder (`second_name`),
 //! an import that finds nothing (`missing`), a cycle of imports (`cycle`). argot_names asks `reach` alone. All take time that
-//! is linear in the files but for hashing, save where there is a cycle: then each import before the first place is tried for
-//! whether its package leads back.
+//! is linear in the files but for hashing, save where there is a cycle: then each import of a package that is on one or that
+//! one leads to is tried for whether its package leads back, until the first place is found.
 #![tactic(auto)]
 
 mod checks;

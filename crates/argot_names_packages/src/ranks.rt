@@ -1,6 +1,6 @@
 // An order of the packages that are reached in which each stands before those that it imports, where there is one.
 //
-// The order is a try: `fall` tests it, and where there is no such order some rank doesn't fall.
+// The order is a try, which `falling` tests. Packages that one on a cycle leads to get no rank.
 ghost use Rattle.std.specs.Prelude.{◌≡◌, ◌<◌, ◌≤◌, ℕ, true, length, slice_get, IfOk, OnOk};
 ghost use Rattle.argot_names_rules.specs.Lists.{In};
 ghost use Rattle.argot_names_imports.specs.Graph.{Leads};

@@ -4,7 +4,7 @@ use Rattle.argot_names_rules.specs.Faults.{IsOnCycle}
 use Rattle.argot_names_packages.specs.Spots.{none}
 use Rattle.argot_names_packages.specs.Cycles.{IsCycleAt}
 use Rattle.argot_names_packages.proofs.Least.{least_all}
-use Rattle.argot_names_packages.proofs.Cycling.{steps_same, leader_below, target_below, none_on_cycle, cycle_there, cycle_is, no_cycle}
+use Rattle.argot_names_packages.proofs.Cycling.{steps_same, leader_below, target_below, none_on_cycle, cycle_there, cycle_is, ranked}
 use Rattle.argot_names_packages.proofs.cycles.cycle.Goals as goal
 
 pub returns-in_default : goal.returns-in_default
@@ -15,13 +15,13 @@ graph_of-requires-clause-below c = λ file l e.
     let there : slice_get c.args.survey.now.leaders.items file ≡ Some (Some l) = subst (λ ls. slice_get ls file ≡ Some (Some l)) c.deref.ensures.value e in
     subst (λ ls. l < length ls) (sym c.deref.ensures.value) (leader_below c.requires.0 c.requires.1 c.args.survey.now c.requires.2 file l there)
 
-pub returns-then-all_fall : goal.returns-then-all_fall
-returns-then-all_fall c = λ h main same is.
+pub first_cycle-requires-clause-ranked : goal.first_cycle-requires-clause-ranked
+first_cycle-requires-clause-ranked c =
     let s = c.args.survey.now in
     let lists = c.in_ok-graph.graph.lists in
     let steps = steps_same c.deref.result.now s.leaders.items c.deref-2.result.now s.imports.items c.deref-3.result.now s.founds.items lists c.deref.ensures.value c.deref-2.ensures.value c.deref-3.ensures.value c.in_ok-graph.ensures.edges in
     let count = c.in-Ok.ensures.1 in
-    none (no_cycle h main s is lists steps c.deref-4.result.now (λ l t below i edge. c.all_fall.ensures c.if-all_fall.true l t (omega (arith, below, count)) i edge))
+    ranked c.requires.0 c.requires.1 s c.requires.2 lists steps c.falling-ranks.result.now (λ l below i. c.falling-ranks.ensures l (omega (arith, below, count)) i)
 
 pub first_cycle-requires-clause-targets : goal.first_cycle-requires-clause-targets
 first_cycle-requires-clause-targets c = λ k from to st.

@@ -10,9 +10,9 @@ loop-t-preserved c =
     let whole = ap (λ rest. c.loop-t.yielded ++ rest) (sym c.in-Some.ensures.steps) ∙ c.loop-t.invariant.rest in
     record {
       rest = rw append_assoc whole;
-      fall = λ t h. elim (in_either c.loop-t.yielded c.in-Some.t t h) [
-        | inl old ↦ c.loop-t.invariant.fall t old
-        | inr new ↦ let e : rank_of c.args.ranks.now t ≡ rank_of c.args.ranks.now c.in-Some.t = ap (rank_of c.args.ranks.now) new in omega (arith, e)
+      fall = λ t h some. elim (in_either c.loop-t.yielded c.in-Some.t t h) [
+        | inl old ↦ c.loop-t.invariant.fall t old some
+        | inr new ↦ let e : rank_of c.args.ranks.now t ≡ rank_of c.args.ranks.now c.in-Some.t = ap (rank_of c.args.ranks.now) new in omega (arith, e, some)
       ];
     }
 
