@@ -1,0 +1,10 @@
+use Rattle.std.proofs.Common.{◌≡◌, ℕ, ◌<◌, Some, List}
+use Rattle.std.specs.Prelude.{slice_get}
+use Rattle.argot_facts.specs.declared.findings.EscapePair.{EscapePair}
+use Rattle.argot_facts.specs.declared.findings.Flow.{Flow}
+use Rattle.argot_facts.specs.declared.findings.Hop.{Hop}
+use Rattle.argot_facts.specs.declared.findings.Origin.{Origin}
+use Rattle.argot_report.proofs.fitting.flows_fit.Given as goal
+
+abbrev pub invariant-loop-k : goal.invariant-loop-k
+invariant-loop-k l = (j : ℕ) → j < l.k → (y : Flow × List Hop) → slice_get l.flows j ≡ Some y → (y.0.source < l.places) × (y.0.sink < l.places)

@@ -1,0 +1,4 @@
+pub mod Names
+pub mod Report
+pub mod Counted
+pub mod Growing
