@@ -2,10 +2,10 @@
 # Times what the greatest configuration asks of the program with the most functions: 16 problems of 320 matchers with three
 # patterns each, 65,536 functions, and 50,000 places with two tags. It prints the processor seconds and the greatest memory in MB of
 # reading the program and a configuration without matchers, and then of the whole. It installs nothing.
-# usage: bench/config.sh [ARGOT_CONFIG_SHOW]      (the built program; crates/argot_config_show/out/argot_config_show where none is named)
+# usage: bench/config.sh [ARGOT_PLAIN_SHOW]      (the built program; crates/argot_plain_show/out/argot_plain_show where none is named)
 set -eu
 here=$(cd "$(dirname "$0")" && pwd)
-show=${1:-$here/../crates/argot_config_show/out/argot_config_show}
+show=${1:-$here/../crates/argot_plain_show/out/argot_plain_show}
 folder=$(mktemp -d)
 trap 'rm -rf "$folder"' EXIT
 
@@ -37,13 +37,12 @@ json.dump({"problems": problems}, open(sys.argv[1] + "/full.json", "w"))
 json.dump({"problems": [{"name": "none"}]}, open(sys.argv[1] + "/none.json", "w"))' "$folder"
 
 timed() {
-    cp "$folder/$1.json" "$folder/config.json"
     (cd "$folder" && python3 -c '
 import resource, subprocess, sys
 lines = subprocess.run(sys.argv[1:], capture_output=True, text=True).stdout.splitlines()
 used = resource.getrusage(resource.RUSAGE_CHILDREN)
-named = sum(int(line.split()[1]) for line in lines)
-print("%d functions and places named: %.2f s, %d MB" % (named, used.ru_utime + used.ru_stime, used.ru_maxrss // 1024))' "$show" -count)
+named = sum(int(line.split()[1]) for line in lines[1:])
+print("%d functions and places named: %.2f s, %d MB" % (named, used.ru_utime + used.ru_stime, used.ru_maxrss // 1024))' "$show" problems -count "$1.json" program.txt)
 }
 
 timed none

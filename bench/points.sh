@@ -4,11 +4,11 @@
 # nodes and locations, how many references there are with a sum over the relation, which has to be the same for all, how much
 # of the table that fills, the processor seconds of each with reading (and of argot up to the reaching definitions alone), and
 # the greatest memory in MB. It installs nothing.
-# usage: bench/points.sh [ARGOT_POINTS_SHOW [FUNCTIONS [SHAPE..]]]
-#        (the built program; crates/argot_points_show/out/argot_points_show where none is named)
+# usage: bench/points.sh [ARGOT_PLAIN_SHOW [FUNCTIONS [SHAPE..]]]
+#        (the built program; crates/argot_plain_show/out/argot_plain_show where none is named)
 set -eu
 here=$(cd "$(dirname "$0")" && pwd)
-show=${1:-$here/../crates/argot_points_show/out/argot_points_show}
+show=${1:-$here/../crates/argot_plain_show/out/argot_plain_show}
 folder=$(mktemp -d)
 trap 'rm -rf "$folder"' EXIT
 functions=${2:-500}
@@ -91,11 +91,11 @@ for shape in $shapes; do
     program_of "$shape" "$functions" > "$folder/program.txt" 2> "$folder/counts"
     echo "$shape: $(cat "$folder/counts")"
     printf '  up to definitions  '
-    timed "$show" -definitions
+    timed "$show" definitions -count program.txt
     printf '  worklist           '
-    timed "$show" | tee "$folder/found"
+    timed "$show" references program.txt | tee "$folder/found"
     printf '  passes             '
-    timed "$show" -passes
+    timed "$show" references -passes program.txt
     if [ -n "$peer" ]; then
         printf '  peer               '
         timed "$peer"

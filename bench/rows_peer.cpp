@@ -1,14 +1,14 @@
 // The peer of bench/rows.sh: the same table and the same joins as plain C++ over 64-bit words, without a test a word.
 #include <cstdint>
 #include <cstdio>
+#include <cstdlib>
 #include <vector>
 
-int main() {
-    unsigned rows = 0, cols = 0, rounds = 0;
-    FILE *file = std::fopen("rows.txt", "r");
-    if (!file || std::fscanf(file, "%u %u %u", &rows, &cols, &rounds) != 3) {
+int main(int count, char **words) {
+    if (count != 4) {
         return 1;
     }
+    unsigned rows = std::atoi(words[1]), cols = std::atoi(words[2]), rounds = std::atoi(words[3]);
     const size_t width = (size_t(cols) + 63) / 64;
     std::vector<std::uint64_t> words(width * rows);
     for (unsigned c = 0; c < cols; c += 3) {

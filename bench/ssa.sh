@@ -2,10 +2,10 @@
 # Times reaching definitions on generated functions, beside a solver by bit vectors over basic blocks that is iterated to the
 # fixpoint (bench/ssa_peer.cpp), where g++ is. It prints for each function its places, the count and the sum of both, which
 # have to be the same, the seconds of each with reading, and the greatest memory in MB. It installs nothing.
-# usage: bench/ssa.sh [ARGOT_SSA_SHOW]      (the built program; crates/argot_ssa_show/out/argot_ssa_show where none is named)
+# usage: bench/ssa.sh [ARGOT_PLAIN_SHOW]      (the built program; crates/argot_plain_show/out/argot_plain_show where none is named)
 set -eu
 here=$(cd "$(dirname "$0")" && pwd)
-show=${1:-$here/../crates/argot_ssa_show/out/argot_ssa_show}
+show=${1:-$here/../crates/argot_plain_show/out/argot_plain_show}
 folder=$(mktemp -d)
 trap 'rm -rf "$folder"' EXIT
 peer=
@@ -43,21 +43,36 @@ function_of() {
     }'
 }
 
+# the same function as a program of plain code
+program_of() {
+    awk 'NR == 1 { registers = $1; next }
+    { line[++count] = $0 }
+    END {
+        printf "file main.go\nfunction entry 0 %d %d 0 0 own - - - -", count + 1, count + 2
+        for (k = 0; k < registers; k++) printf " -"
+        print "\n  goto 1"
+        split("op goto branch", word, " ")
+        for (k = 1; k <= count; k++) print "  " word[substr(line[k], 1, 1) + 1] substr(line[k], 2)
+        print "  rundefers\n  leave"
+    }'
+}
+
 timed() {
     (cd "$folder" && python3 -c '
 import resource, subprocess, sys, time
 begin = time.time()
 text = subprocess.run(sys.argv[1:], capture_output=True, text=True).stdout.splitlines()[-1]
 memory = resource.getrusage(resource.RUSAGE_CHILDREN).ru_maxrss // 1024
-print("%s: %.2f s, %d MB" % (text, time.time() - begin, memory))' "$1")
+print("%s: %.2f s, %d MB" % (text, time.time() - begin, memory))' "$@")
 }
 
 for size in 10000 100000; do
     for shape in line fold joins tested; do
         function_of "$shape" "$size" > "$folder/function.txt"
+        program_of < "$folder/function.txt" > "$folder/program.txt"
         echo "$shape of $size"
         printf '  argot  '
-        timed "$show"
+        timed "$show" definitions program.txt
         if [ -n "$peer" ]; then
             printf '  peer   '
             timed "$peer"

@@ -1,5 +1,7 @@
 // Reaching definitions by bit vectors over basic blocks, iterated to the fixpoint: a peer for bench/ssa.sh.
-// It reads function.txt as argot_ssa_show does and prints the same last line.
+// It reads function.txt, whose first line has the number of registers and each further one an instruction in numbers: `0 TO
+// FROM..` an Op, `1 TARGET` a Goto, `2 TARGET..` a Branch, `3 TO FROM` a Move of the whole value, `4 CALLEE TO ARGUMENT..` a
+// Call by value with a result and `5 CALLEE ARGUMENT..` one without. Its last line is that of `argot_plain_show definitions`.
 #include <algorithm>
 #include <cstdint>
 #include <cstdio>

@@ -1,8 +1,0 @@
-use Rattle.std.proofs.Common.{◌≡◌, length}
-use Rattle.argot_rows_show.proofs.filled.Given as goal
-
-abbrev pub invariant-loop-c : goal.invariant-loop-c
-invariant-loop-c l = record {
-  rows : length l.table.rows ≡ l.rows;
-  cols : l.table.cols ≡ l.cols;
-}

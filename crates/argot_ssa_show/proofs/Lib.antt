@@ -1,3 +1,0 @@
-pub mod Well
-pub mod Built
-pub mod Numbers
