@@ -12,8 +12,8 @@ use crate::writing::test_length;
 use argot_facts::{EscapePair, Flow, Hop, Origin, Trace};
 use argot_text::Out;
 
-/// A step of a trace.
-fn push_step(out: &mut Out, subject: &Subject<'_>, hop: Hop) -> Result<(), ReportFault>
+/// A node of a trace, if the report stays short enough.
+fn push_short_hop(out: &mut Out, subject: &Subject<'_>, hop: Hop) -> Result<(), ReportFault>
     ensures ok { OnOk result (out.new ≡ out.old ++ hop_line (told subject.now) hop) }
     ensures err { IfErr result (TooLong out.old (hop_line (told subject.now) hop)) }
 {
@@ -29,7 +29,7 @@ fn push_trace(out: &mut Out, subject: &Subject<'_>, trace: &Trace) -> Result<(),
     ensures err { IfErr result (TooLong out.old (flat_map (hop_line (told subject.now)) trace.now)) }
 {
     for hop in trace.as_slice() {
-        if let Err(fault) = push_step(out, subject, *hop) {
+        if let Err(fault) = push_short_hop(out, subject, *hop) {
             return Err(fault);
         }
     }
@@ -137,7 +137,7 @@ pub(crate) fn push_origins(out: &mut Out, subject: &Subject<'_>) -> Result<(), R
 }
 
 /// A site, if the report stays short enough.
-fn push_site_line(out: &mut Out, subject: &Subject<'_>, site: u32) -> Result<(), ReportFault>
+fn push_short_site(out: &mut Out, subject: &Subject<'_>, site: u32) -> Result<(), ReportFault>
     ensures ok { OnOk result (out.new ≡ out.old ++ site_line (told subject.now) site) }
     ensures err { IfErr result (TooLong out.old (site_line (told subject.now) site)) }
 {
@@ -153,7 +153,7 @@ pub(crate) fn push_sites(out: &mut Out, subject: &Subject<'_>) -> Result<(), Rep
     ensures err { IfErr result (TooLong out.old (flat_map (site_line (told subject.now)) subject.now.findings.now.sites)) }
 {
     for site in subject.findings.sites.as_slice() {
-        if let Err(fault) = push_site_line(out, subject, *site) {
+        if let Err(fault) = push_short_site(out, subject, *site) {
             return Err(fault);
         }
     }

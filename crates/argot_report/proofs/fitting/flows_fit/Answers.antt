@@ -14,7 +14,7 @@ returns-then-not-flow_fits-clause-no c = λ h.
 pub loop-k-preserved : goal.loop-k-preserved
 loop-k-preserved c =
     let P = λ (y : Flow × List Hop). (y.0.source < c.args.places) × (y.0.sink < c.args.places) in
-    one_more P c.args.flows.now c.loop-k.k c.index-flows-k.result c.loop-k.invariant c.loop-k-test.true (c.flow_fits.ensures.yes ?)
+    one_more P c.args.flows.now c.loop-k.k c.index-flows-k.result c.loop-k.invariant c.loop-k-test.true (c.flow_fits.ensures.yes c.if-not-flow_fits.false)
 
 pub returns-clause-yes : goal.returns-clause-yes
 returns-clause-yes c = λ t. all_of (λ (y : Flow × List Hop). (y.0.source < c.args.places) × (y.0.sink < c.args.places)) c.args.flows.now c.loop-k.k c.loop-k.invariant c.loop-k-test.false
