@@ -4,11 +4,11 @@
 #include <cstdlib>
 #include <vector>
 
-int main(int count, char **words) {
+int main(int count, char **given) {
     if (count != 4) {
         return 1;
     }
-    unsigned rows = std::atoi(words[1]), cols = std::atoi(words[2]), rounds = std::atoi(words[3]);
+    unsigned rows = std::atoi(given[1]), cols = std::atoi(given[2]), rounds = std::atoi(given[3]);
     const size_t width = (size_t(cols) + 63) / 64;
     std::vector<std::uint64_t> words(width * rows);
     for (unsigned c = 0; c < cols; c += 3) {
