@@ -79,7 +79,7 @@ module _ (p : Code) where
             cc
 
         split : (x : Option Bool) → fn.external ≡ x → ⊥
-        split None x = goes_on (fn.entry + 1) (wf.begins g fn is x)
+        split None x = goes_on (fn.entry + 1) (wf.entry_goto g fn is x)
         split (Some flows) x = goes_on fn.entry (wf.externals g flows fn is x).goto
 
     inner_leaves : (fn : Function) (i : ℕ) (kind : Kind) → IsAt p i kind → (i ≡ fn.entry → ⊥) → place_leaves p fn i ≡ kind_leaves p fn i (Some kind)

@@ -47,7 +47,7 @@ MayMeetBy p F s w i = EscapesBy p F s ⊎ FollowsBy p F w i
 pub data ReadAt (p : Code) (i : ℕ) : ℕ → Type 0 where
   at_call : (to args : List ℕ) → (callee : Callee) → IsAt p i (Call to callee args) → ReadAt p i i
   at_go : (args : List ℕ) → (callee : Callee) → IsAt p i (Go callee args) → ReadAt p i i
-  at_exit : (g : ℕ) → (args : List ℕ) → (callee : Callee) → (fn : Function) → IsAt p i (Defer callee args) → IsIn p i g → IsFunction p g fn → ReadAt p i fn.exit
+  at_exit : (h : ℕ) → (args : List ℕ) → (callee : Callee) → (fn : Function) → IsAt p i (Defer callee args) → IsIn p i h → IsFunction p h fn → ReadAt p i fn.exit
 
 -- an instruction whose handed values enter its target as calls do: a Call or a Defer
 pub data CallsLikewise : Kind → Type 0 where
@@ -61,27 +61,27 @@ pub data MovesBy (p : Code) (D : ℕ → ℕ → ℕ → ℕ → Type 0) (F : Fa
   -- the elements that a Grow copies stand with its items
   grown : {i : ℕ} {q : List PathStep} → (to at : ℕ) → (items : List ℕ) → IsLivePlaceIn p F i → IsAt p i (Grow to at items) → MovesBy p D F pr (mark i 2 q) Plain (mark i 1 q)
   -- a handed value to its parameter, by a Call or Defer
-  call : {i j : ℕ} {q : List PathStep} → (k g n : ℕ) → (takes : Bool) → (kind : Kind) → (callee : Callee) → (args : List ℕ) → (fn : Function)
-      → IsAt p i kind → CallsLikewise kind → Hands kind callee args n → F (Targets i g takes) → param_of takes (length (arguments callee args)) k ≡ Some j → IsFunction p g fn
+  call : {i j : ℕ} {q : List PathStep} → (k target n : ℕ) → (takes : Bool) → (kind : Kind) → (callee : Callee) → (args : List ℕ) → (fn : Function)
+      → IsAt p i kind → CallsLikewise kind → Hands kind callee args n → F (Targets i target takes) → param_of takes (length (arguments callee args)) k ≡ Some j → IsFunction p target fn
       → MovesBy p D F pr (mark i (n + k) q) (Enters i) (mark fn.entry j q)
   -- and by a Go
-  go : {i k j : ℕ} {q : List PathStep} → (g : ℕ) → (takes : Bool) → (callee : Callee) → (args : List ℕ) → (fn : Function)
-      → IsAt p i (Go callee args) → F (Targets i g takes) → param_of takes (length (arguments callee args)) k ≡ Some j → IsFunction p g fn
+  go : {i k j : ℕ} {q : List PathStep} → (target : ℕ) → (takes : Bool) → (callee : Callee) → (args : List ℕ) → (fn : Function)
+      → IsAt p i (Go callee args) → F (Targets i target takes) → param_of takes (length (arguments callee args)) k ≡ Some j → IsFunction p target fn
       → MovesBy p D F pr (mark i k q) Reset (mark fn.entry j q)
   -- what a Leave hands back to its result, but from a sanitizer that is no source
-  return : {i k : ℕ} {q : List PathStep} → (g : ℕ) → (takes : Bool) → (to args : List ℕ) → (callee : Callee) → (fn : Function)
-      → IsAt p i (Call to callee args) → F (Targets i g takes) → IsFunction p g fn → fn.external ≡ None → k < length to → cleans p pr i g ≡ false
+  return : {i k : ℕ} {q : List PathStep} → (target : ℕ) → (takes : Bool) → (to args : List ℕ) → (callee : Callee) → (fn : Function)
+      → IsAt p i (Call to callee args) → F (Targets i target takes) → IsFunction p target fn → fn.external ≡ None → k < length to → cleans p pr i target ≡ false
       → MovesBy p D F pr (mark fn.leave k q) (Returns i) (mark i k q)
   -- an argument of an external whose entry flows to each result leaf, but of a sanitizer that is no source
-  external : {i j : ℕ} {q q' : List PathStep} → (k g : ℕ) → (takes : Bool) → (to args : List ℕ) → (callee : Callee) → (fn : Function)
-      → IsAt p i (Call to callee args) → F (Targets i g takes) → IsFunction p g fn → fn.external ≡ Some true → cleans p pr i g ≡ false
+  external : {i j : ℕ} {q q' : List PathStep} → (k target : ℕ) → (takes : Bool) → (to args : List ℕ) → (callee : Callee) → (fn : Function)
+      → IsAt p i (Call to callee args) → F (Targets i target takes) → IsFunction p target fn → fn.external ≡ Some true → cleans p pr i target ≡ false
       → k < length (arguments callee args) → j < length to
       → MovesBy p D F pr (mark i (length to + k) q) Plain (mark i j q')
   -- a write of a location to a read of it
   by_object : {m n : Mark} → (s : ℕ) → (path : List PathStep) → WritesBy p D F m s path → IsReadBy p D F n s path → MayMeetBy p F s m.place n.place → MovesBy p D F pr m Reset n
   -- a write of an object that an argument of a sink or an external reaches to leaf 0 of the argument
-  by_argument : {m : Mark} {i : ℕ} {q : List PathStep} → (k s g n at : ℕ) → (takes : Bool) → (path : List PathStep) → (kind : Kind) → (callee : Callee) → (args : List ℕ)
-      → IsAt p i kind → Hands kind callee args n → F (Targets i g takes) → LooksInside p pr i g → k < length (arguments callee args) → HasLeaf p i (n + k) 0 q
+  by_argument : {m : Mark} {i : ℕ} {q : List PathStep} → (k s target n at : ℕ) → (takes : Bool) → (path : List PathStep) → (kind : Kind) → (callee : Callee) → (args : List ℕ)
+      → IsAt p i kind → Hands kind callee args n → F (Targets i target takes) → LooksInside p pr i target → k < length (arguments callee args) → HasLeaf p i (n + k) 0 q
       → ReachableBy p F i (n + k) s → WritesBy p D F m s path → ReadAt p i at → MayMeetBy p F s m.place at
       → MovesBy p D F pr m Reset (mark i (n + k) q)
 

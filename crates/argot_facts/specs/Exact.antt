@@ -51,8 +51,8 @@ pub data SpotRefers (p : Code) : Spot → Loc → Type 0 where
 pub record ArePoints (p : Code) (x : Pointing) : Type 0 where
   pub fits : FitsPoints p x
   pub refers : (a : Spot) (l : Loc) → In (a, l) (refers x) ↔ SpotRefers p a l
-  pub live_order : IsOrdered (λ (g h : ℕ). g < h) x.live
-  pub live : (g : ℕ) → In g x.live ↔ Holds p (IsLive g)
+  pub live_order : IsOrdered (λ (a b : ℕ). a < b) x.live
+  pub live : (h : ℕ) → In h x.live ↔ Holds p (IsLive h)
   pub targets : AreTargets p x.targets
 
 -- by site whether it escapes, by these facts
@@ -75,7 +75,7 @@ pub data ReadsMemory (p : Code) (i : ℕ) : Type 0 where
   by_grow : (to at : ℕ) → (items : List ℕ) → IsAt p i (Grow to at items) → ReadsMemory p i
   by_call : (to args : List ℕ) → (callee : Callee) → IsAt p i (Call to callee args) → 0 < length (arguments callee args) → ReadsMemory p i
   by_go : (args : List ℕ) → (callee : Callee) → IsAt p i (Go callee args) → 0 < length (arguments callee args) → ReadsMemory p i
-  at_exit : (d g : ℕ) → (args : List ℕ) → (callee : Callee) → (fn : Function) → IsAt p d (Defer callee args) → IsIn p d g → IsFunction p g fn → i ≡ fn.exit → ReadsMemory p i
+  at_exit : (d h : ℕ) → (args : List ℕ) → (callee : Callee) → (fn : Function) → IsAt p d (Defer callee args) → IsIn p d h → IsFunction p h fn → i ≡ fn.exit → ReadsMemory p i
 
 -- by these facts a place that reads may come after one that writes
 pub record IsControlPair (p : Code) (F : Fact → Type 0) (a b : ℕ) : Type 0 where

@@ -74,7 +74,7 @@ walked_back drawn.Reset = drawn.Reset
 abbrev pub backwards_onto : List Hop → List Hop → List Hop
 backwards_onto [] done = done
 backwards_onto (h ∷ []) done = hop drawn.Start h.node ∷ done
-backwards_onto (h ∷ (g ∷ hops)) done = backwards_onto (g ∷ hops) (hop (walked_back g.kind) h.node ∷ done)
+backwards_onto (h ∷ (next ∷ hops)) done = backwards_onto (next ∷ hops) (hop (walked_back next.kind) h.node ∷ done)
 
 -- the trace from the origin at the node number n to the argument k of the point t: that of the turned edges from the first node of
 -- the argument which is joined to the origin by them, read backwards
@@ -129,4 +129,4 @@ pub data TargetBefore (a b : ℕ × ℕ) : Type 0 where
 -- exactly the calls with their targets, in order
 pub record AreTargets (p : Code) (found : List (ℕ × ℕ)) : Type 0 where
   pub ordered : IsOrdered TargetBefore found
-  pub each : (i g : ℕ) → In (i, g) found ↔ ((takes : Bool) × Holds p (Targets i g takes))
+  pub each : (i target : ℕ) → In (i, target) found ↔ ((takes : Bool) × Holds p (Targets i target takes))

@@ -19,14 +19,14 @@ use Rattle.argot_facts.specs.declared.nodes.Node.{Node}
 -- by these facts a result node of the source place s: a Call of a source, or a place that the problem names and that has a result
 -- of index 0. A place without one is the source of nothing
 pub data IsSourceBy (p : Code) (F : Fact → Type 0) (pr : Problem) : ℕ → Mark → Type 0 where
-  by_call : {s k : ℕ} {q : List PathStep} → (to args : List ℕ) → (callee : Callee) → (g : ℕ) → (takes : Bool)
-      → IsAt p s (Call to callee args) → F (Targets s g takes) → is_source p pr s g ≡ true → k < length to → IsSourceBy p F pr s (mark s k q)
+  by_call : {s k : ℕ} {q : List PathStep} → (to args : List ℕ) → (callee : Callee) → (target : ℕ) → (takes : Bool)
+      → IsAt p s (Call to callee args) → F (Targets s target takes) → is_source p pr s target ≡ true → k < length to → IsSourceBy p F pr s (mark s k q)
   by_place : {s : ℕ} {q : List PathStep} → is_source_place pr s ≡ true → IsNode p (mark s 0 q) → IsSourceBy p F pr s (mark s 0 q)
 
 -- a node of the argument k of the sink place t
 pub data IsArgumentBy (p : Code) (F : Fact → Type 0) (pr : Problem) : ℕ → ℕ → Mark → Type 0 where
-  is_argument : {t k : ℕ} {q : List PathStep} → (kind : Kind) → (callee : Callee) → (args : List ℕ) → (n g : ℕ) → (takes : Bool)
-      → IsAt p t kind → Hands kind callee args n → F (Targets t g takes) → is_sink p pr t g ≡ true → k < length (arguments callee args)
+  is_argument : {t k : ℕ} {q : List PathStep} → (kind : Kind) → (callee : Callee) → (args : List ℕ) → (n target : ℕ) → (takes : Bool)
+      → IsAt p t kind → Hands kind callee args n → F (Targets t target takes) → is_sink p pr t target ≡ true → k < length (arguments callee args)
       → IsArgumentBy p F pr t k (mark t (n + k) q)
 
 -- a realizable list joins the source to the argument

@@ -31,8 +31,8 @@ pub record IsLocated (ls : List Loc) (y : ℕ) (to : Location) : Type 0 where
   pub is : slice_get ls y ≡ Some location
   pub same : place_of location ≡ to
 
--- at the place i stands a Call, Go or Defer, and the function g takes its reference there or doesn't
-pub record IsTakenAt (p : Code) (i g : ℕ) (takes : Bool) : Type 0 where
+-- at the place i stands a Call, Go or Defer, and the target takes its reference there or doesn't
+pub record IsTakenAt (p : Code) (i target : ℕ) (takes : Bool) : Type 0 where
   pub kind : Kind
   pub callee : Callee
   pub args : List ℕ
@@ -40,12 +40,12 @@ pub record IsTakenAt (p : Code) (i g : ℕ) (takes : Bool) : Type 0 where
   pub fn : Function
   pub at : IsAt p i kind
   pub hands : Hands kind callee args behind
-  pub is : IsFunction p g fn
+  pub is : IsFunction p target fn
   pub takes_it : takes ≡ takes_reference callee fn
 
 -- what the tables of points-to have
 abbrev pub FactsOf : Code → Pointing → Fact → Type 0
-FactsOf p x (IsLive g) = In g x.live
-FactsOf p x (Targets i g takes) = In (i, g) x.targets × IsTakenAt p i g takes
+FactsOf p x (IsLive h) = In h x.live
+FactsOf p x (Targets i target takes) = In (i, target) x.targets × IsTakenAt p i target takes
 FactsOf p x (NodeRefers m to) = (n : ℕ) × (y : ℕ) × IsNumberOf p x.nodes n m × IsLocated x.locations y to × (has x.rows n y ≡ true)
 FactsOf p x (PlaceRefers at to) = (z : ℕ) × (y : ℕ) × IsLocated x.locations z at × IsLocated x.locations y to × (has x.rows (place_row x z) y ≡ true)

@@ -61,9 +61,9 @@ pub record FitsPoints (p : Code) (x : Pointing) : Type 0 where
   pub nodes : x.nodes ≡ nodes_of p
   pub locations : x.locations ≡ locations_of p
   pub rows : HasRows x
-  pub live : (g : ℕ) → In g x.live → g < length p.functions
-  pub places : (i g : ℕ) → In (i, g) x.targets → i < length p.instrs
-  pub callees : (i g : ℕ) → In (i, g) x.targets → g < length p.functions
+  pub live : (h : ℕ) → In h x.live → h < length p.functions
+  pub places : (i target : ℕ) → In (i, target) x.targets → i < length p.instrs
+  pub callees : (i target : ℕ) → In (i, target) x.targets → target < length p.functions
 
 -- the location number y is one of the site
 pub record IsPlaceOf (ls : List Loc) (s y : ℕ) : Type 0 where
@@ -79,5 +79,5 @@ pub record AreIndexed (x : Pointing) (by_site by_place : List (List ℕ)) (is_li
   pub rows : HasRows x
   pub ordered : IsOrdered IsBefore x.nodes
   pub sites : (s y : ℕ) → In y (run by_site s) ↔ IsPlaceOf x.locations s y
-  pub places : (i g : ℕ) → In g (run by_place i) ↔ In (i, g) x.targets
-  pub flags : (g : ℕ) → (slice_get is_live g ≡ Some true) ↔ In g x.live
+  pub places : (i target : ℕ) → In target (run by_place i) ↔ In (i, target) x.targets
+  pub flags : (h : ℕ) → (slice_get is_live h ≡ Some true) ↔ In h x.live

@@ -26,9 +26,9 @@ abbrev pub loc : ℕ → List PathStep → Location
 loc site path = record { site = site; path = path }
 
 pub data Fact : Type 0 where
-  IsLive : (g : ℕ) → Fact
-  -- the function g is a target of the place i, and takes the reference as its first parameter or doesn't
-  Targets : (i g : ℕ) → (takes : Bool) → Fact
+  IsLive : (h : ℕ) → Fact
+  -- the function is a target of the place i, and takes the reference as its first parameter or doesn't
+  Targets : (i target : ℕ) → (takes : Bool) → Fact
   NodeRefers : (n : Mark) → (to : Location) → Fact
   PlaceRefers : (at : Location) → (to : Location) → Fact
 
@@ -39,19 +39,19 @@ pub data Fact : Type 0 where
 pub data Holds (p : Code) : Fact → Type 0 where
   -- live functions ⊇ {the entry} ∪ targets
   entry_is_live : Holds p (IsLive 0)
-  target_is_live : {g : ℕ} → (i : ℕ) → (takes : Bool)
-      → Holds p (Targets i g takes)
-      → Holds p (IsLive g)
-  -- targets ⊇ {g}, for a callee by number
-  target_static : {i g : ℕ} → (h n : ℕ) → (kind : Kind) → (args : List ℕ)
+  target_is_live : {target : ℕ} → (i : ℕ) → (takes : Bool)
+      → Holds p (Targets i target takes)
+      → Holds p (IsLive target)
+  -- targets ⊇ {target}, for a callee by number
+  target_static : {i target : ℕ} → (h n : ℕ) → (kind : Kind) → (args : List ℕ)
       → IsIn p i h
       → Holds p (IsLive h)
       → IsAt p i kind
-      → Hands kind (Static g) args n
-      → Holds p (Targets i g false)
+      → Hands kind (Static target) args n
+      → Holds p (Targets i target false)
   -- targets ⊇ {the function of s | s.path ∈ r}, for the function value in r; it takes the reference where it has captures
   -- or a bound receiver
-  target_value : {i g : ℕ} {takes : Bool}
+  target_value : {i target : ℕ} {takes : Bool}
       → (h n d j r s : ℕ) → (path : List PathStep) → (kind : Kind) → (args : List ℕ) → (site : Site) → (fn : Function)
       → IsIn p i h
       → Holds p (IsLive h)
@@ -60,12 +60,12 @@ pub data Holds (p : Code) : Fact → Type 0 where
       → DefinedAt p d j r i
       → Holds p (NodeRefers (mark d j []) (loc s path))
       → slice_get p.sites s ≡ Some site
-      → site.function ≡ Some g
-      → IsFunction p g fn
+      → site.function ≡ Some target
+      → IsFunction p target fn
       → takes ≡ fn.has_env
-      → Holds p (Targets i g takes)
+      → Holds p (Targets i target takes)
   -- targets ⊇ {the wrapper of the type of s under the name | s.path ∈ r}, for a method of the box in r
-  target_method : {i g : ℕ}
+  target_method : {i target : ℕ}
       → (h n d j r s : ℕ) → (name : List ℕ) → (path : List PathStep) → (kind : Kind) → (args : List ℕ) → (site : Site)
       → IsIn p i h
       → Holds p (IsLive h)
@@ -74,8 +74,8 @@ pub data Holds (p : Code) : Fact → Type 0 where
       → DefinedAt p d j r i
       → Holds p (NodeRefers (mark d j []) (loc s path))
       → slice_get p.sites s ≡ Some site
-      → In (site.dynamic, name, g) p.methods
-      → Holds p (Targets i g false)
+      → In (site.dynamic, name, target) p.methods
+      → Holds p (Targets i target false)
   -- (i, k) at q' ⊇ r at q, for Move, Join, the value of a Write, the reference and the items of a Grow, handed values,
   -- Leave and Passed
   copy : {i k : ℕ} {q' : List PathStep} {x : Location} → (h d j r : ℕ) → (q : List PathStep) → (kind : Kind)
@@ -178,23 +178,23 @@ pub data Holds (p : Code) : Fact → Type 0 where
   -- parameter j of a target at q ⊇ handed value k at q. Of the value by which the callee is found, a target is handed
   -- what selects it: a wrapper the boxes of its type, a function the references to objects that stand for it
   param : {e j : ℕ} {q : List PathStep} {x : Location}
-      → (i g n k : ℕ) → (takes : Bool) → (kind : Kind) → (callee : Callee) → (args : List ℕ) → (fn : Function)
+      → (i target n k : ℕ) → (takes : Bool) → (kind : Kind) → (callee : Callee) → (args : List ℕ) → (fn : Function)
       → IsAt p i kind
       → Hands kind callee args n
-      → Holds p (Targets i g takes)
+      → Holds p (Targets i target takes)
       → param_of takes (length (arguments callee args)) k ≡ Some j
-      → GoesTo p callee args k x.site g
-      → IsFunction p g fn
+      → GoesTo p callee args k x.site target
+      → IsFunction p target fn
       → e ≡ fn.entry
       → IsNode p (mark e j q)
       → Holds p (NodeRefers (mark i (n + k) q) x)
       → Holds p (NodeRefers (mark e j q) x)
   -- result k at q ⊇ what the Leave of a target hands back as k at q
   result : {i k : ℕ} {q : List PathStep} {x : Location}
-      → (g : ℕ) → (takes : Bool) → (to args : List ℕ) → (callee : Callee) → (fn : Function)
+      → (target : ℕ) → (takes : Bool) → (to args : List ℕ) → (callee : Callee) → (fn : Function)
       → IsAt p i (Call to callee args)
-      → Holds p (Targets i g takes)
-      → IsFunction p g fn
+      → Holds p (Targets i target takes)
+      → IsFunction p target fn
       → fn.external ≡ None
       → k < length to
       → IsNode p (mark i k q)
@@ -202,11 +202,11 @@ pub data Holds (p : Code) : Fact → Type 0 where
       → Holds p (NodeRefers (mark i k q) x)
   -- result k at q ⊇ {the site of that leaf}, where a target is an external
   fresh_result : {i k s : ℕ} {q : List PathStep}
-      → (h g t : ℕ) → (takes flows : Bool) → (to args : List ℕ) → (callee : Callee) → (fn : Function)
+      → (h target t : ℕ) → (takes flows : Bool) → (to args : List ℕ) → (callee : Callee) → (fn : Function)
       → IsIn p i h
       → IsAt p i (Call to callee args)
-      → Holds p (Targets i g takes)
-      → IsFunction p g fn
+      → Holds p (Targets i target takes)
+      → IsFunction p target fn
       → fn.external ≡ Some flows
       → slice_get to k ≡ Some t
       → IsResultSite p h i k t q s

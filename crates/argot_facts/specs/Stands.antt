@@ -12,7 +12,7 @@ pub record IsPlaced (p : Code) (x : Location) : Type 0 where
 
 -- nodes refer, and to locations, and so do locations
 abbrev pub Stands : Code → Fact → Type 0
-Stands p (IsLive g) = Unit {0}
-Stands p (Targets i g takes) = Unit {0}
+Stands p (IsLive h) = Unit {0}
+Stands p (Targets i target takes) = Unit {0}
 Stands p (NodeRefers m to) = IsNode p m × IsPlaced p to
 Stands p (PlaceRefers at to) = IsPlaced p at × IsPlaced p to

@@ -22,8 +22,8 @@ pub record AreSummaries (edges : List Edge) (facts : List Same) : Type 0 where
 
 -- no two facts have both ends in common
 abbrev pub AreApart : List Same → Type 0
-AreApart facts = (i j : ℕ) (f g : Same) → slice_get facts i ≡ Some f → slice_get facts j ≡ Some g
-    → f.from ≡ g.from → f.to ≡ g.to → i ≡ j
+AreApart facts = (i j : ℕ) (a b : Same) → slice_get facts i ≡ Some a → slice_get facts j ≡ Some b
+    → a.from ≡ b.from → a.to ≡ b.to → i ≡ j
 
 -- there are more facts than the limit, which these show
 pub record HasManyFacts (edges : List Edge) : Type 0 where

@@ -88,8 +88,8 @@ fn by_site(alloc: Global, locations: &[Loc], sites: u32) -> Result<Runs, Memory>
 
 /// The targets by their places.
 fn by_place(alloc: Global, targets: &[(u32, u32)], places: u32) -> Result<Runs, Memory>
-    requires { (i g : ℕ) → In (i, g) targets.now → i < places }
-    ensures { IfOk result (λ r. (i g : ℕ) → In g (run r i) ↔ In (i, g) targets.now) }
+    requires { (i target : ℕ) → In (i, target) targets.now → i < places }
+    ensures { IfOk result (λ r. (i target : ℕ) → In target (run r i) ↔ In (i, target) targets.now) }
 {
     if targets.len() > u32::MAX as usize {
         return Err(Memory);
@@ -99,12 +99,12 @@ fn by_place(alloc: Global, targets: &[(u32, u32)], places: u32) -> Result<Runs, 
 
 /// Which functions stand in the list.
 fn flags_of(alloc: Global, live: &[u32], functions: usize) -> Result<Vec<bool>, Memory>
-    requires { (g : ℕ) → In g live.now → g < functions }
-    ensures { IfOk result (λ v. (g : ℕ) → IsSet v.items g ↔ In g live.now) }
+    requires { (h : ℕ) → In h live.now → h < functions }
+    ensures { IfOk result (λ v. (h : ℕ) → IsSet v.items h ↔ In h live.now) }
 {
     let mut flags = vec![in alloc; false; functions]?;
-    for g in live {
-        mark(&mut flags, *g as usize);
+    for function in live {
+        mark(&mut flags, *function as usize);
     }
     Ok(flags)
 }
@@ -212,7 +212,7 @@ impl Points {
 
     /// The targets of a place.
     pub fn targets_of(&self, place: u32) -> &[u32]
-        ensures { (g : ℕ) → In g result.now ↔ In (place, g) self.now.targets }
+        ensures { (target : ℕ) → In target result.now ↔ In (place, target) self.now.targets }
     {
         if (place as usize) < self.by_place.len() {
             return self.by_place.run(place);

@@ -8,7 +8,7 @@ use Rattle.argot_first_form.specs.declared.functions.Returned.{Returned}
 use Rattle.argot_first_form.specs.declared.functions.Returned.TheVariants as returns
 use Rattle.argot_plain.specs.declared.first.Kind.{Kind}
 use Rattle.argot_plain.specs.declared.first.Kind.TheVariants.{Op, Move, Call, RunDefers, Leave, Goto, Branch}
-use Rattle.argot_plain.specs.First.{Plain, Code, In, kind_at, IsAt, IsFunction, GoesOn, Successor, Gives, IsParameter, Defines, Reaches, next, onward, Takes, Within, Enters, Returns, Edge, within, enters, returns, Joins, stay, plain, call, return_last, return_free, cleans}
+use Rattle.argot_plain.specs.First.{Plain, Code, Among, kind_at, IsAt, IsFunction, GoesOn, Successor, Gives, IsParameter, Defines, Reaches, next, onward, Takes, Within, Enters, Returns, Edge, within, enters, returns, Joins, stay, plain, call, return_last, return_free, cleans}
 use Rattle.argot_first.specs.Code.{number_of}
 use Rattle.argot_first.specs.Marks.{marked, target, set_at, carries, passes, cleans_name}
 use Rattle.argot_first.proofs.Lookup.{some-same}
@@ -89,7 +89,7 @@ target-within functions kinds j x (Leave from) w h t = absurd h
 target-within functions kinds j x (Goto p) w h t = absurd h
 target-within functions kinds j x (Branch ts) w h t = absurd h
 
-none-in : (r : ℕ) (from : List ℕ) → from ≡ [] → In r from → ⊥
+none-in : (r : ℕ) (from : List ℕ) → from ≡ [] → Among r from → ⊥
 none-in r from e h = let q : slice_get [] h.0 ≡ Some r = subst (λ y. slice_get y h.0 ≡ Some r) e h.1 in cc q
 
 or-right : (a b : Bool) → b ≡ true → (a || b) ≡ true

@@ -32,11 +32,11 @@ use Rattle.argot_first_sound.specs.Laws.{FlowsAreFlows}
 use Rattle.argot_first_sound.proofs.Maps.{some-same, stands, is-few, function-there, function-back, inside-back, call-back, hands-on, successor-back, defines-back, defines-there}
 
 -- a member stands in the list
-member-by : (x y : ℕ) (ys : List ℕ) (b : Bool) → nat_eq x y ≡ b → (member x ys ≡ true → First.In x ys) → (b || member x ys) ≡ true → First.In x (y ∷ ys)
+member-by : (x y : ℕ) (ys : List ℕ) (b : Bool) → nat_eq x y ≡ b → (member x ys ≡ true → First.Among x ys) → (b || member x ys) ≡ true → First.Among x (y ∷ ys)
 member-by x y ys true e rec h = (0, ap Some (sym (eqb-true x y e)))
 member-by x y ys false e rec h = let m = rec h in (suc m.0, m.1)
 
-member-in : (x : ℕ) (xs : List ℕ) → member x xs ≡ true → First.In x xs
+member-in : (x : ℕ) (xs : List ℕ) → member x xs ≡ true → First.Among x xs
 member-in x [] h = absurd (false≢true h)
 member-in x (y ∷ ys) h = member-by x y ys (nat_eq x y) refl (member-in x ys) h
 
@@ -146,8 +146,8 @@ module _ (code : First.Code) where
 
   meaning : {f : Fact} → Holds (whole_of code) f → Meaning f
   meaning entry_is_live = First.opening
-  meaning (target_is_live {g} i takes t) = live-by i g takes (meaning t)
-  meaning (target_static {i} {g} h n kind args inside l at hands) = called-by i g h n kind args inside (meaning l) at hands
+  meaning (target_is_live {target = g} i takes t) = live-by i g takes (meaning t)
+  meaning (target_static {i = i} {target = g} h n kind args inside l at hands) = called-by i g h n kind args inside (meaning l) at hands
   meaning (target_value {i} h n d j r s path kind args site fn inside l at hands def refers is function isf env) = absurd (no-value i r n kind args at hands)
   meaning (target_method {i} h n d j r s name path kind args site inside l at hands def refers is wrapper) = absurd (no-method i r n name kind args at hands)
   meaning _ = tt

@@ -265,7 +265,7 @@ module _ (code : First.Code) (ok : Fitting code) where
         params = λ k r q. let w = slice_get_within args k r q in let count = c.count in leaves-at g r here.function here.is (c.args_below k r q) ∙ sym (leaves-at h k c.callee c.is (omega arith));
         no_env = refl;
         results = λ to2 callee e. let x : to ≡ to2 = cc e in ap length (sym x) ∙ c.results;
-        returned = λ to2 from callee k r s e none left a z.
+        result_leaves = λ to2 from callee k r s e none left a z.
             let x : to ≡ to2 = cc e in
             let last : First.IsIn c.callee.leave c.callee = (omega arith, omega arith) in
             let good = at-place c.callee b c.callee.leave (Leave from) last left in
@@ -369,7 +369,7 @@ module _ (code : First.Code) (ok : Fitting code) where
     entry_function = record { fn = whole_function ok.first; is = function-there code 0 ok.first ok.is_first; body = refl; params = ok.no_params; results = ok.no_results; own = refl; nameless = ap ident_of ok.nameless };
     externals = λ g flows fn h e. no-external g fn flows h e;
     bodies = λ g fn h none. let f = function-back code g fn h in let b = ok.bodies g f.0 f.1 in let low = b.low in let high = b.high in let x : f.0.exit < f.0.leave = omega arith in subst (λ (y : Function). (y.entry < y.exit) × (y.exit < y.leave)) (sym f.2) (low, x);
-    begins = λ g fn h none. let f = function-back code g fn h in let b = ok.bodies g f.0 f.1 in subst (λ (y : Function). IsAt (whole_of code) y.entry (Goto (y.entry + 1))) (sym f.2) (at-there code f.0.entry (few.Goto (f.0.entry + 1)) b.first);
+    entry_goto = λ g fn h none. let f = function-back code g fn h in let b = ok.bodies g f.0 f.1 in subst (λ (y : Function). IsAt (whole_of code) y.entry (Goto (y.entry + 1))) (sym f.2) (at-there code f.0.entry (few.Goto (f.0.entry + 1)) b.first);
     no_entry = no-entry;
     stays = stays-in;
     runs_at_exit = runs;

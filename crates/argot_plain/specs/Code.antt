@@ -1,4 +1,8 @@
 -- A program of plain code as contracts see it: its places, and what its instructions define, read, hand on and go on to.
+--
+-- One letter is one thing in all definitions over plain code: p a program, i and j places, h the function that a place is in,
+-- target another function that it names, r a register, q the path of a leaf and a its number, k an index, s a site, and in
+-- the machine g a goroutine and f a frame.
 use Rattle.std.specs.Prelude.{◌≡◌, ℕ, ◌+◌, ◌<◌, ◌≤◌, ◌==◌, ◌++◌, Bool, true, false, Option, List, [], ◌∷◌, Some, None, map, nat_lt, slice_get, length, if◌then◌else◌}
 use Rattle.argot_plain.specs.Lists.{In, without_first}
 use Rattle.argot_plain.specs.declared.functions.Function.{Function}
@@ -31,20 +35,20 @@ kind_of (Some x) = Some x.kind
 abbrev pub IsAt : Code → ℕ → Kind → Type 0
 IsAt p i k = kind_of (slice_get p.instrs i) ≡ Some k
 
--- the function number g is fn
+-- the function number h is fn
 abbrev pub IsFunction : Code → ℕ → Function → Type 0
-IsFunction p g fn = slice_get p.functions g ≡ Some fn
+IsFunction p h fn = slice_get p.functions h ≡ Some fn
 
--- the place i is the first one of the function g
-pub record IsEntry (p : Code) (i g : ℕ) : Type 0 where
+-- the place i is the first one of the function h
+pub record IsEntry (p : Code) (i h : ℕ) : Type 0 where
   pub fn : Function
-  pub is : IsFunction p g fn
+  pub is : IsFunction p h fn
   pub at : i ≡ fn.entry
 
--- the place i is one of the function g
-pub record IsIn (p : Code) (i g : ℕ) : Type 0 where
+-- the place i is one of the function h
+pub record IsIn (p : Code) (i h : ℕ) : Type 0 where
   pub fn : Function
-  pub is : IsFunction p g fn
+  pub is : IsFunction p h fn
   pub low : fn.entry ≤ i
   pub high : i ≤ fn.leave
 
@@ -62,9 +66,9 @@ leaves_in (Some fn) r = paths_in (slice_get fn.registers r)
     paths_in None = []
     paths_in (Some qs) = qs
 
--- the leaf paths of the register r of the function g
+-- the leaf paths of the register r of the function h
 abbrev pub leaves : Code → ℕ → ℕ → List (List PathStep)
-leaves p g r = leaves_in (slice_get p.functions g) r
+leaves p h r = leaves_in (slice_get p.functions h) r
 
 -- the leaf paths of what a slice of the site holds in each element
 abbrev pub element_leaves : Site → List (List PathStep)
@@ -87,39 +91,39 @@ defined _ = []
 
 -- the arguments of a call: the box by which a method is called is the first
 abbrev pub arguments : Callee → List ℕ → List ℕ
-arguments (Static g) args = args
+arguments (Static h) args = args
 arguments (Value r) args = args
 arguments (Method r name) args = r ∷ args
 
 -- the handed values: the arguments, and behind them the reference by which a function value is called
 abbrev pub handed_values : Callee → List ℕ → List ℕ
-handed_values (Static g) args = args
+handed_values (Static h) args = args
 handed_values (Value r) args = args ++ r ∷ []
 handed_values (Method r name) args = r ∷ args
 
 -- the index of the handed value by which the callee is found: the reference by which a function value is called, the box
 -- by which a method is
 abbrev pub found_by : Callee → List ℕ → Option ℕ
-found_by (Static g) args = None
+found_by (Static h) args = None
 found_by (Value r) args = Some (length args)
 found_by (Method r name) args = Some 0
 
--- an object of the site s selects the function g for such a callee: it stands for g, or g is the wrapper of its type under
+-- an object of the site s selects the function h for such a callee: it stands for h, or h is the wrapper of its type under
 -- the method's name
-pub data Selects (p : Code) (s g : ℕ) : Callee → Type 0 where
+pub data Selects (p : Code) (s h : ℕ) : Callee → Type 0 where
   by_value : {r : ℕ} → (site : Site)
       → slice_get p.sites s ≡ Some site
-      → site.function ≡ Some g
-      → Selects p s g (Value r)
+      → site.function ≡ Some h
+      → Selects p s h (Value r)
   by_method : {r : ℕ} {name : List ℕ} → (site : Site)
       → slice_get p.sites s ≡ Some site
-      → In (site.dynamic, name, g) p.methods
-      → Selects p s g (Method r name)
+      → In (site.dynamic, name, h) p.methods
+      → Selects p s h (Method r name)
 
--- where the handed value k refers to an object of the site s, it goes on to the function g: to any function, but where the
+-- where the handed value k refers to an object of the site s, it goes on to the function h: to any function, but where the
 -- callee is found by this value to what the object selects
 abbrev pub GoesTo : Code → Callee → List ℕ → ℕ → ℕ → ℕ → Type 0
-GoesTo p callee args k s g = found_by callee args ≡ Some k → Selects p s g callee
+GoesTo p callee args k s h = found_by callee args ≡ Some k → Selects p s h callee
 
 -- a Call, Go or Defer with its callee, its written arguments and how many results stand before the handed values
 pub data Hands : Kind → Callee → List ℕ → ℕ → Type 0 where
@@ -160,7 +164,7 @@ node_registers kind = defined kind
 -- the place i defines the register r as its result k; the first place of a function defines the parameters
 pub data Defines (p : Code) (i k r : ℕ) : Type 0 where
   by_kind : (kind : Kind) → IsAt p i kind → slice_get (defined kind) k ≡ Some r → Defines p i k r
-  by_entry : (g : ℕ) → (e : IsEntry p i g) → k < e.fn.params → r ≡ k → Defines p i k r
+  by_entry : (h : ℕ) → (e : IsEntry p i h) → k < e.fn.params → r ≡ k → Defines p i k r
 
 -- whether the reference by which a function is called is its first parameter
 abbrev pub takes_reference : Callee → Function → Bool

@@ -25,8 +25,8 @@ pub record Code : Type 0 where
   pub instrs : List Instr
 
 -- x stands in the list
-abbrev pub In : ℕ → List ℕ → Type 0
-In x xs = (k : ℕ) × (slice_get xs k ≡ Some x)
+abbrev pub Among : ℕ → List ℕ → Type 0
+Among x xs = (k : ℕ) × (slice_get xs k ≡ Some x)
 
 abbrev pub kind_in : Option Instr → Option Kind
 kind_in None = None
@@ -40,18 +40,18 @@ abbrev pub IsAt : Code → ℕ → Kind → Type 0
 IsAt code i kind = kind_at code i ≡ Some kind
 
 abbrev pub IsFunction : Code → ℕ → Plain → Type 0
-IsFunction code g fn = slice_get code.functions g ≡ Some fn
+IsFunction code h fn = slice_get code.functions h ≡ Some fn
 
 -- where an instruction at a place goes on
 abbrev pub GoesOn : Option Kind → ℕ → ℕ → Type 0
 GoesOn None i j = ⊥
 GoesOn (Some (Op to from)) i j = j ≡ i + 1
 GoesOn (Some (Move to from)) i j = j ≡ i + 1
-GoesOn (Some (Call to g args)) i j = j ≡ i + 1
+GoesOn (Some (Call to h args)) i j = j ≡ i + 1
 GoesOn (Some RunDefers) i j = j ≡ i + 1
 GoesOn (Some (Leave from)) i j = ⊥
 GoesOn (Some (Goto target)) i j = j ≡ target
-GoesOn (Some (Branch targets)) i j = In j targets
+GoesOn (Some (Branch targets)) i j = Among j targets
 
 abbrev pub Successor : Code → ℕ → ℕ → Type 0
 Successor code i j = GoesOn (kind_at code i) i j
@@ -61,7 +61,7 @@ abbrev pub Gives : Option Kind → ℕ → ℕ → Type 0
 Gives None k r = ⊥
 Gives (Some (Op to from)) k r = (k ≡ 0) × (r ≡ to)
 Gives (Some (Move to from)) k r = (k ≡ 0) × (r ≡ to)
-Gives (Some (Call to g args)) k r = slice_get to k ≡ Some r
+Gives (Some (Call to h args)) k r = slice_get to k ≡ Some r
 Gives (Some RunDefers) k r = ⊥
 Gives (Some (Leave from)) k r = ⊥
 Gives (Some (Goto target)) k r = ⊥
@@ -92,7 +92,7 @@ IsIn i fn = (fn.entry ≤ i) × (i ≤ fn.leave)
 -- the live functions: the opening one, and those that a place of a live one calls
 pub data Live (code : Code) : ℕ → Type 0 where
   opening : Live code 0
-  called : {g : ℕ} → (f i : ℕ) → (fn : Plain) → (to args : List ℕ) → Live code f → IsFunction code f fn → IsIn i fn → IsAt code i (Call to g args) → Live code g
+  called : {h : ℕ} → (f i : ℕ) → (fn : Plain) → (to args : List ℕ) → Live code f → IsFunction code f fn → IsIn i fn → IsAt code i (Call to h args) → Live code h
 
 pub record IsLivePlace (code : Code) (i : ℕ) : Type 0 where
   pub number : ℕ
@@ -104,9 +104,9 @@ pub record IsLivePlace (code : Code) (i : ℕ) : Type 0 where
 -- an instruction takes the register r to its node l: arguments stand behind the results
 abbrev pub Takes : Option Kind → ℕ → ℕ → Type 0
 Takes None l r = ⊥
-Takes (Some (Op to from)) l r = (l ≡ 0) × In r from
+Takes (Some (Op to from)) l r = (l ≡ 0) × Among r from
 Takes (Some (Move to from)) l r = (l ≡ 0) × (r ≡ from)
-Takes (Some (Call to g args)) l r = (n : ℕ) × (l ≡ length to + n) × (slice_get args n ≡ Some r)
+Takes (Some (Call to h args)) l r = (n : ℕ) × (l ≡ length to + n) × (slice_get args n ≡ Some r)
 Takes (Some RunDefers) l r = ⊥
 Takes (Some (Leave from)) l r = slice_get from l ≡ Some r
 Takes (Some (Goto target)) l r = ⊥
@@ -133,9 +133,9 @@ pub data Edge (code : Code) : ℕ → ℕ → EdgeKind → ℕ → ℕ → Type 
   -- a definition to a place that it reaches and that takes its register
   within : {d k i l : ℕ} → (r : ℕ) → IsLivePlace code i → Takes (kind_at code i) l r → Reaches code d k r i → Edge code d k Within i l
   -- an argument to its parameter
-  enters : {i l e k : ℕ} → (to args : List ℕ) → (g : ℕ) → (fn : Plain) → IsLivePlace code i → IsAt code i (Call to g args) → IsFunction code g fn → l ≡ length to + k → k < length args → e ≡ fn.entry → Edge code i l (Enters i) e k
+  enters : {i l e k : ℕ} → (to args : List ℕ) → (h : ℕ) → (fn : Plain) → IsLivePlace code i → IsAt code i (Call to h args) → IsFunction code h fn → l ≡ length to + k → k < length args → e ≡ fn.entry → Edge code i l (Enters i) e k
   -- what a Leave hands back to its result, but from a sanitizer that is no source
-  returns : {x k i : ℕ} → (to args : List ℕ) → (g : ℕ) → (fn : Plain) → IsLivePlace code i → IsAt code i (Call to g args) → IsFunction code g fn → x ≡ fn.leave → k < length to → cleans fn ≡ false → Edge code x k (Returns i) i k
+  returns : {x k i : ℕ} → (to args : List ℕ) → (h : ℕ) → (fn : Plain) → IsLivePlace code i → IsAt code i (Call to h args) → IsFunction code h fn → x ≡ fn.leave → k < length to → cleans fn ≡ false → Edge code x k (Returns i) i k
 
 -- a realizable edge list joins the node (a, k) to (b, l) and leaves these calls open, the last one first
 pub data Joins (code : Code) (a k : ℕ) : ℕ → ℕ → List ℕ → Type 0 where

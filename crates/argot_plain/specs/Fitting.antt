@@ -6,9 +6,9 @@ use Rattle.argot_plain.specs.declared.problems.Problem.{Problem}
 
 -- the functions and places that the problem names are the program's
 pub record Fits (p : Code) (pr : Problem) : Type 0 where
-  pub sources : (g : ℕ) → In g pr.sources → g < length p.functions
-  pub sinks : (g : ℕ) → In g pr.sinks → g < length p.functions
-  pub sanitizers : (g : ℕ) → In g pr.sanitizers → g < length p.functions
-  pub validators : (g : ℕ) → In g pr.validators → g < length p.functions
-  pub points : (g : ℕ) → In g pr.points → g < length p.functions
+  pub sources : (h : ℕ) → In h pr.sources → h < length p.functions
+  pub sinks : (h : ℕ) → In h pr.sinks → h < length p.functions
+  pub sanitizers : (h : ℕ) → In h pr.sanitizers → h < length p.functions
+  pub validators : (h : ℕ) → In h pr.validators → h < length p.functions
+  pub points : (h : ℕ) → In h pr.points → h < length p.functions
   pub places : (i : ℕ) (name : List ℕ) → In (i, name) pr.source_places → i < length p.instrs

@@ -145,11 +145,11 @@ abbrev pub copied : Labelling → Change → ℕ → ℕ → ℕ → ℕ → Lis
 copied l f r to i k [] cells = []
 copied l f r to i k (q ∷ qs) cells = map (put_cell l f to i k q) (value_at r q cells) ++ copied l f r to i k qs cells
 
--- what the instruction at the place i of the function g hands on, by index from k on, behind n results: the handed values of a
+-- what the instruction at the place i of the function h hands on, by index from k on, behind n results: the handed values of a
 -- call, or the values of a Leave
 abbrev pub handed : Code → Labelling → ℕ → ℕ → ℕ → ℕ → List ℕ → List Cell → List Cell
-handed p l g i n k [] cells = []
-handed p l g i n k (r ∷ rs) cells = copied l same_labels r k i (n + k) (leaves p g r) cells ++ handed p l g i n (k + 1) rs cells
+handed p l h i n k [] cells = []
+handed p l h i n k (r ∷ rs) cells = copied l same_labels r k i (n + k) (leaves p h r) cells ++ handed p l h i n (k + 1) rs cells
 
 -- a handed value as a parameter of the function h; what has no parameter, or a leaf that the parameter hasn't, is dropped
 abbrev pub as_param : Code → Labelling → ℕ → Function → Cell → Option ℕ → Option Cell
@@ -160,11 +160,11 @@ as_param p l h fn c (Some j) = if nat_lt j fn.params && has_path c.leaf (leaves 
 abbrev pub to_params : Code → Labelling → ℕ → Bool → ℕ → Function → List Cell → List Cell
 to_params p l h takes n fn cells = filter_map (λ c. as_param p l h fn c (param_of takes n c.register)) cells
 
--- values that are handed back, by index, put into the registers to of the function g, as results numbered from k of the place i; a
+-- values that are handed back, by index, put into the registers to of the function h, as results numbered from k of the place i; a
 -- result that is handed nothing is zero, and what has no result is dropped
 abbrev pub handed_back : Code → Labelling → Change → ℕ → ℕ → ℕ → List ℕ → List Cell → List Cell
-handed_back p l f g i k [] cells = []
-handed_back p l f g i k (t ∷ ts) cells = copied l f k t i k (leaves p g t) cells ++ handed_back p l f g i (k + 1) ts cells
+handed_back p l f h i k [] cells = []
+handed_back p l f h i k (t ∷ ts) cells = copied l f k t i k (leaves p h t) cells ++ handed_back p l f h i (k + 1) ts cells
 
 -- whether a later part, which doesn't lie among elements, replaces what stands at q
 abbrev pub is_covered : List PathStep → List (List PathStep × ℕ) → Bool

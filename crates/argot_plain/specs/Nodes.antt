@@ -18,13 +18,13 @@ mark i k q = record { place = i; index = k; leaf = q }
 -- the leaf number a at the index k of the place i is the path q: of a result, handed value, parameter, written value or what
 -- a Leave hands back; of a Grow also of the items that it puts (index 1) and of the elements that it copies (index 2)
 pub data HasLeaf (p : Code) (i k a : ℕ) (q : List PathStep) : Type 0 where
-  of_kind : (g r : ℕ) → (kind : Kind) → IsIn p i g → IsAt p i kind → slice_get (node_registers kind) k ≡ Some r
-      → slice_get (leaves p g r) a ≡ Some q → HasLeaf p i k a q
+  of_kind : (h r : ℕ) → (kind : Kind) → IsIn p i h → IsAt p i kind → slice_get (node_registers kind) k ≡ Some r
+      → slice_get (leaves p h r) a ≡ Some q → HasLeaf p i k a q
   of_items : (n to at : ℕ) → (items : List ℕ) → (site : Site) → IsAt p i (Grow to at items) → IsSiteOf p i n site → k ≡ 1
       → slice_get (element_leaves site) a ≡ Some q → HasLeaf p i k a q
   of_elements : (n to at : ℕ) → (items : List ℕ) → (site : Site) → IsAt p i (Grow to at items) → IsSiteOf p i n site → k ≡ 2
       → slice_get (element_leaves site) a ≡ Some q → HasLeaf p i k a q
-  of_entry : (g : ℕ) → (e : IsEntry p i g) → k < e.fn.params → slice_get (leaves p g k) a ≡ Some q → HasLeaf p i k a q
+  of_entry : (h : ℕ) → (e : IsEntry p i h) → k < e.fn.params → slice_get (leaves p h k) a ≡ Some q → HasLeaf p i k a q
 
 -- the mark is that of a node
 pub record IsNode (p : Code) (n : Mark) : Type 0 where

@@ -67,24 +67,24 @@ CarriesOn false n cells slots ls = ls ≡ []
 abbrev pub result_labels : Code → Labelling → ℕ → ℕ → Change
 result_labels p l i h n ls = if is_source p l.problem i h then n ∷ ls else (if cleans p l.problem i h then [] else ls)
 
--- the site number n is that of the leaf q of result k, in the register t, of the Call at the place i of the function g
-pub record IsResultSite (p : Code) (g i k t : ℕ) (q : List PathStep) (n : ℕ) : Type 0 where
+-- the site number n is that of the leaf q of result k, in the register t, of the Call at the place i of the function h
+pub record IsResultSite (p : Code) (h i k t : ℕ) (q : List PathStep) (n : ℕ) : Type 0 where
   pub site : Site
   pub is : IsSiteOf p i n site
   pub result : site.result ≡ k
-  pub leaf : slice_get (leaves p g t) site.leaf ≡ Some q
+  pub leaf : slice_get (leaves p h t) site.leaf ≡ Some q
 
 -- a result of an external is a reference to a fresh object where it has a site, else no reference
-pub data ExternalValue (p : Code) (g i k t maker fresh : ℕ) (q : List PathStep) : Datum → Type 0 where
-  fresh_one : (n : ℕ) → IsResultSite p g i k t q n → ExternalValue p g i k t maker fresh q (fresh_object n maker fresh)
-  no_reference : ((n : ℕ) → IsResultSite p g i k t q n → ⊥) → ExternalValue p g i k t maker fresh q Scalar
+pub data ExternalValue (p : Code) (h i k t maker fresh : ℕ) (q : List PathStep) : Datum → Type 0 where
+  fresh_one : (n : ℕ) → IsResultSite p h i k t q n → ExternalValue p h i k t maker fresh q (fresh_object n maker fresh)
+  no_reference : ((n : ℕ) → IsResultSite p h i k t q n → ⊥) → ExternalValue p h i k t maker fresh q Scalar
 
 -- what an external may give at a leaf of a result
 abbrev pub MayGive : Code → ℕ → ℕ → ℕ → ℕ → ℕ → ℕ → List Mark → List PathStep → List Content → Type 0
-MayGive p g i k t maker fresh ls q xs = (v : Datum) × ExternalValue p g i k t maker fresh q v × (xs ≡ content v ls ∷ [])
+MayGive p h i k t maker fresh ls q xs = (v : Datum) × ExternalValue p h i k t maker fresh q v × (xs ≡ content v ls ∷ [])
 
--- the results of the external h, called at the place i of the function g, from result k on
-pub data ExternalGives (p : Code) (l : Labelling) (g i h maker fresh : ℕ) (ls : List Mark) : ℕ → List ℕ → List Cell → Type 0 where
-  no_more : {k : ℕ} → ExternalGives p l g i h maker fresh ls k [] []
-  one_more : {k t : ℕ} {ts : List ℕ} {cells rest : List Cell} → Fills l (result_labels p l i h) t i k (MayGive p g i k t maker fresh ls) (leaves p g t) cells
-      → ExternalGives p l g i h maker fresh ls (k + 1) ts rest → ExternalGives p l g i h maker fresh ls k (t ∷ ts) (cells ++ rest)
+-- the results of the external target, called at the place i of the function h, from result k on
+pub data ExternalGives (p : Code) (l : Labelling) (h i target maker fresh : ℕ) (ls : List Mark) : ℕ → List ℕ → List Cell → Type 0 where
+  no_more : {k : ℕ} → ExternalGives p l h i target maker fresh ls k [] []
+  one_more : {k t : ℕ} {ts : List ℕ} {cells rest : List Cell} → Fills l (result_labels p l i target) t i k (MayGive p h i k t maker fresh ls) (leaves p h t) cells
+      → ExternalGives p l h i target maker fresh ls (k + 1) ts rest → ExternalGives p l h i target maker fresh ls k (t ∷ ts) (cells ++ rest)

@@ -31,10 +31,10 @@ code_of p = record {
 
 -- the places of the functions are disjoint, stand in the order of the functions, begin at 0 and cover all places
 pub record HasRanges (p : Code) : Type 0 where
-  pub inside : (g : ℕ) (fn : Function) → IsFunction p g fn → (fn.entry ≤ fn.exit) × (fn.exit ≤ fn.leave) × (fn.leave < length p.instrs)
+  pub inside : (h : ℕ) (fn : Function) → IsFunction p h fn → (fn.entry ≤ fn.exit) × (fn.exit ≤ fn.leave) × (fn.leave < length p.instrs)
   pub first : (fn : Function) → IsFunction p 0 fn → fn.entry ≡ 0
-  pub next : (g : ℕ) (fn after : Function) → IsFunction p g fn → IsFunction p (g + 1) after → after.entry ≡ fn.leave + 1
-  pub last : (g : ℕ) (fn : Function) → IsFunction p g fn → g + 1 ≡ length p.functions → fn.leave + 1 ≡ length p.instrs
+  pub next : (h : ℕ) (fn after : Function) → IsFunction p h fn → IsFunction p (h + 1) after → after.entry ≡ fn.leave + 1
+  pub last : (h : ℕ) (fn : Function) → IsFunction p h fn → h + 1 ≡ length p.functions → fn.leave + 1 ≡ length p.instrs
 
 -- the function 0 is the entry
 pub record HasEntry (p : Code) : Type 0 where
@@ -55,30 +55,30 @@ pub record IsExternal (p : Code) (fn : Function) : Type 0 where
 
 -- RunDefers stands at the exit of each function with a body and nowhere else
 pub record RunsAtExit (p : Code) : Type 0 where
-  pub stands : (g : ℕ) (fn : Function) → IsFunction p g fn → fn.external ≡ None → IsAt p fn.exit RunDefers
-  pub alone : (i g : ℕ) (fn : Function) → IsAt p i RunDefers → IsIn p i g → IsFunction p g fn → i ≡ fn.exit
+  pub stands : (h : ℕ) (fn : Function) → IsFunction p h fn → fn.external ≡ None → IsAt p fn.exit RunDefers
+  pub alone : (i h : ℕ) (fn : Function) → IsAt p i RunDefers → IsIn p i h → IsFunction p h fn → i ≡ fn.exit
 
 -- Leave stands at the leave of each function with a body and nowhere else
 pub record LeavesAtLeave (p : Code) : Type 0 where
-  pub stands : (g : ℕ) (fn : Function) → IsFunction p g fn → fn.external ≡ None → (from : List ℕ) × IsAt p fn.leave (Leave from)
-  pub alone : (i g : ℕ) (from : List ℕ) (fn : Function) → IsAt p i (Leave from) → IsIn p i g → IsFunction p g fn → i ≡ fn.leave
+  pub stands : (h : ℕ) (fn : Function) → IsFunction p h fn → fn.external ≡ None → (from : List ℕ) × IsAt p fn.leave (Leave from)
+  pub alone : (i h : ℕ) (from : List ℕ) (fn : Function) → IsAt p i (Leave from) → IsIn p i h → IsFunction p h fn → i ≡ fn.leave
 
 -- only Reads stand between exit and leave, and no Goto or Branch leads there
 pub record ReadsBehindExit (p : Code) : Type 0 where
-  pub reads : (i g : ℕ) (fn : Function) → IsFunction p g fn → fn.exit < i → i < fn.leave → (to : ℕ) × (at : ℕ) × (qs : List (List PathStep)) × IsAt p i (Read to at qs)
-  pub goto : (i g target : ℕ) (fn : Function) → IsFunction p g fn → IsIn p i g → IsAt p i (Goto target) → target ≤ fn.exit
-  pub branch : (i g target : ℕ) (targets : List ℕ) (fn : Function) → IsFunction p g fn → IsIn p i g → IsAt p i (Branch targets) → In target targets → target ≤ fn.exit
+  pub reads : (i h : ℕ) (fn : Function) → IsFunction p h fn → fn.exit < i → i < fn.leave → (to : ℕ) × (at : ℕ) × (qs : List (List PathStep)) × IsAt p i (Read to at qs)
+  pub goto : (i h target : ℕ) (fn : Function) → IsFunction p h fn → IsIn p i h → IsAt p i (Goto target) → target ≤ fn.exit
+  pub branch : (i h target : ℕ) (targets : List ℕ) (fn : Function) → IsFunction p h fn → IsIn p i h → IsAt p i (Branch targets) → In target targets → target ≤ fn.exit
 
 -- the registers that places name are there, the parameters are the first ones, a Call names each result once, and the
 -- leaf paths of a register are distinct
 pub record HasRegisters (p : Code) : Type 0 where
-  pub there : (i g r : ℕ) (kind : Kind) (fn : Function) → IsFunction p g fn → IsIn p i g → IsAt p i kind → In r (defined kind ++ reads kind) → r < length fn.registers
-  pub params : (g : ℕ) (fn : Function) → IsFunction p g fn → fn.params ≤ length fn.registers
+  pub there : (i h r : ℕ) (kind : Kind) (fn : Function) → IsFunction p h fn → IsIn p i h → IsAt p i kind → In r (defined kind ++ reads kind) → r < length fn.registers
+  pub params : (h : ℕ) (fn : Function) → IsFunction p h fn → fn.params ≤ length fn.registers
   pub once : (i : ℕ) (to args : List ℕ) (callee : Callee) → IsAt p i (Call to callee args) → IsDistinct to
-  pub distinct : (g r : ℕ) → IsDistinct (leaves p g r)
+  pub distinct : (h r : ℕ) → IsDistinct (leaves p h r)
 
 abbrev pub callee_registers : Callee → List ℕ
-callee_registers (Static g) = []
+callee_registers (Static h) = []
 callee_registers (Value r) = r ∷ []
 callee_registers (Method r name) = r ∷ []
 
@@ -98,19 +98,19 @@ reference_registers _ = []
 
 -- such a register has one leaf, the empty path, and so has the parameter of a function that takes its reference
 pub record HasReferences (p : Code) : Type 0 where
-  pub each : (i g r : ℕ) (kind : Kind) → IsIn p i g → IsAt p i kind → In r (reference_registers kind) → leaves p g r ≡ [] ∷ []
-  pub param : (g : ℕ) (fn : Function) → IsFunction p g fn → fn.has_env ≡ true → leaves p g 0 ≡ [] ∷ []
+  pub each : (i h r : ℕ) (kind : Kind) → IsIn p i h → IsAt p i kind → In r (reference_registers kind) → leaves p h r ≡ [] ∷ []
+  pub param : (h : ℕ) (fn : Function) → IsFunction p h fn → fn.has_env ≡ true → leaves p h 0 ≡ [] ∷ []
 
--- a Call, Go or Defer of the function h in the function g hands it what its parameters are
-pub record FitsStatic (p : Code) (g h : ℕ) (kind : Kind) (args : List ℕ) : Type 0 where
+-- a Call, Go or Defer of the target in the function h hands it what its parameters are
+pub record FitsStatic (p : Code) (h target : ℕ) (kind : Kind) (args : List ℕ) : Type 0 where
   pub fn : Function
-  pub is : IsFunction p h fn
+  pub is : IsFunction p target fn
   pub count : length args ≡ fn.params
-  pub params : (k r : ℕ) → slice_get args k ≡ Some r → leaves p g r ≡ leaves p h k
+  pub params : (k r : ℕ) → slice_get args k ≡ Some r → leaves p h r ≡ leaves p target k
   pub no_env : fn.has_env ≡ false
   pub results : (to : List ℕ) (callee : Callee) → kind ≡ Call to callee args → length to ≡ fn.results
-  pub returned : (to from : List ℕ) (callee : Callee) (k r s : ℕ) → kind ≡ Call to callee args → fn.external ≡ None → IsAt p fn.leave (Leave from)
-      → slice_get to k ≡ Some r → slice_get from k ≡ Some s → leaves p g r ≡ leaves p h s
+  pub result_leaves : (to from : List ℕ) (callee : Callee) (k r s : ℕ) → kind ≡ Call to callee args → fn.external ≡ None → IsAt p fn.leave (Leave from)
+      → slice_get to k ≡ Some r → slice_get from k ≡ Some s → leaves p h r ≡ leaves p target s
 
 -- the first sites are those of the package variables, in order
 pub record HasGlobalSites (p : Code) : Type 0 where
@@ -137,11 +137,11 @@ pub data MayOwnSites (p : Code) : Callee → Type 0 where
   by_value : {r : ℕ} → MayOwnSites p (Value r)
 
 -- a site of a Call names a leaf of one of its results
-pub record CallSite (p : Code) (g : ℕ) (to : List ℕ) (callee : Callee) (site : Site) : Type 0 where
+pub record CallSite (p : Code) (h : ℕ) (to : List ℕ) (callee : Callee) (site : Site) : Type 0 where
   pub owns : MayOwnSites p callee
   pub register : ℕ
   pub result : slice_get to site.result ≡ Some register
-  pub leaf : site.leaf < length (leaves p g register)
+  pub leaf : site.leaf < length (leaves p h register)
 
 -- the instructions that have sites
 pub data MakesObjects : Kind → Type 0 where
@@ -182,9 +182,9 @@ pub record Wraps (p : Code) (fn : Function) (h : ℕ) : Type 0 where
 
 -- bound-method functions take their reference; wrappers and declared functions don't
 pub record HasEnvironments (p : Code) : Type 0 where
-  pub bound : (g : ℕ) (fn : Function) → IsFunction p g fn → fn.role ≡ Bound → fn.has_env ≡ true
-  pub wrapper : (g : ℕ) (fn : Function) → IsFunction p g fn → fn.role ≡ Wrapper → fn.has_env ≡ false
-  pub declared : (g : ℕ) (fn : Function) (ident : Ident) → IsFunction p g fn → fn.ident ≡ Some ident → fn.has_env ≡ false
+  pub bound : (h : ℕ) (fn : Function) → IsFunction p h fn → fn.role ≡ Bound → fn.has_env ≡ true
+  pub wrapper : (h : ℕ) (fn : Function) → IsFunction p h fn → fn.role ≡ Wrapper → fn.has_env ≡ false
+  pub declared : (h : ℕ) (fn : Function) (ident : Ident) → IsFunction p h fn → fn.ident ≡ Some ident → fn.has_env ≡ false
 
 -- the numbers of functions, package variables, sites, places and files that are named are there
 pub record HasNumbers (p : Code) : Type 0 where
@@ -195,14 +195,14 @@ pub record HasNumbers (p : Code) : Type 0 where
   pub place : (n : ℕ) (site : Site) → slice_get p.sites n ≡ Some site → site.place < length p.instrs
   pub function : (n h : ℕ) (site : Site) → slice_get p.sites n ≡ Some site → site.function ≡ Some h → h < length p.functions
   pub instr_file : (i : ℕ) (x : Instr) → slice_get p.instrs i ≡ Some x → x.at.file < length p.files
-  pub function_file : (g : ℕ) (fn : Function) → IsFunction p g fn → fn.at.file < length p.files
+  pub function_file : (h : ℕ) (fn : Function) → IsFunction p h fn → fn.at.file < length p.files
   pub global_file : (k s : ℕ) (ident : Ident) (at : Pos) → slice_get p.globals k ≡ Some (ident, at, s) → at.file < length p.files
 
 -- the greatest numbers of functions and places, and of leaves of a register and of a site
 pub record HasLimits (p : Code) : Type 0 where
   pub functions : length p.functions ≤ 65536
   pub instrs : length p.instrs ≤ 1048576
-  pub leaves : (g r : ℕ) → length (leaves p g r) ≤ 4096
+  pub leaves : (h r : ℕ) → length (leaves p h r) ≤ 4096
   -- a function value has a path for each variable that it captures, and of these there may be any number
   pub shapes : (n : ℕ) (site : Site) → slice_get p.sites n ≡ Some site → site.function ≡ None → length site.shape ≤ 8192
 
@@ -214,37 +214,37 @@ pub data IsReadOrMove : Kind → Type 0 where
 pub record WellFormed (p : Code) : Type 0 where
   pub ranges : HasRanges p
   pub entry_function : HasEntry p
-  pub externals : (g : ℕ) (flows : Bool) (fn : Function) → IsFunction p g fn → fn.external ≡ Some flows → IsExternal p fn
-  pub bodies : (g : ℕ) (fn : Function) → IsFunction p g fn → fn.external ≡ None → (fn.entry < fn.exit) × (fn.exit < fn.leave)
+  pub externals : (h : ℕ) (flows : Bool) (fn : Function) → IsFunction p h fn → fn.external ≡ Some flows → IsExternal p fn
+  pub bodies : (h : ℕ) (fn : Function) → IsFunction p h fn → fn.external ≡ None → (fn.entry < fn.exit) × (fn.exit < fn.leave)
   -- a Goto to the next place stands at the first place of a body, and no place goes on there
-  pub begins : (g : ℕ) (fn : Function) → IsFunction p g fn → fn.external ≡ None → IsAt p fn.entry (Goto (fn.entry + 1))
-  pub no_entry : (i j g : ℕ) → Successor p i j → IsEntry p j g → ⊥
+  pub entry_goto : (h : ℕ) (fn : Function) → IsFunction p h fn → fn.external ≡ None → IsAt p fn.entry (Goto (fn.entry + 1))
+  pub no_entry : (i j h : ℕ) → Successor p i j → IsEntry p j h → ⊥
   -- successors stay in the function
-  pub stays : (i j g : ℕ) → Successor p i j → IsIn p i g → IsIn p j g
+  pub stays : (i j h : ℕ) → Successor p i j → IsIn p i h → IsIn p j h
   pub runs_at_exit : RunsAtExit p
   pub leaves_at_leave : LeavesAtLeave p
   pub reads_behind_exit : ReadsBehindExit p
   pub registers : HasRegisters p
   pub references : HasReferences p
-  pub op_leaf : (i g to : ℕ) (from : List ℕ) → IsIn p i g → IsAt p i (Op to from) → leaves p g to ≡ [] ∷ []
+  pub op_leaf : (i h to : ℕ) (from : List ℕ) → IsIn p i h → IsAt p i (Op to from) → leaves p h to ≡ [] ∷ []
   -- the leaves of a moved value are those below the path
-  pub move_leaves : (i g to from : ℕ) (path : List PathStep) → IsIn p i g → IsAt p i (Move to from path) → leaves p g to ≡ filter_map (below path) (leaves p g from)
-  pub join_leaves : (i g to r : ℕ) (parts : List (List PathStep × ℕ)) (path q : List PathStep) → IsIn p i g → IsAt p i (Join to parts) → In (path, r) parts → In q (leaves p g r) → In (path ++ q) (leaves p g to)
-  pub read_leaves : (i g to at : ℕ) (qs : List (List PathStep)) → IsIn p i g → IsAt p i (Read to at qs) → qs ≡ leaves p g to
-  pub grow_leaves : (i g n to at r : ℕ) (items : List ℕ) (site : Site) → IsIn p i g → IsAt p i (Grow to at items) → IsSiteOf p i n site → In r items → leaves p g r ≡ element_leaves site
-  pub static_fits : (i g h n : ℕ) (kind : Kind) (args : List ℕ) → IsIn p i g → IsAt p i kind → Hands kind (Static h) args n → FitsStatic p g h kind args
-  pub leave_count : (i g : ℕ) (from : List ℕ) (fn : Function) → IsFunction p g fn → IsIn p i g → IsAt p i (Leave from) → length from ≡ fn.results
+  pub move_leaves : (i h to from : ℕ) (path : List PathStep) → IsIn p i h → IsAt p i (Move to from path) → leaves p h to ≡ filter_map (below path) (leaves p h from)
+  pub join_leaves : (i h to r : ℕ) (parts : List (List PathStep × ℕ)) (path q : List PathStep) → IsIn p i h → IsAt p i (Join to parts) → In (path, r) parts → In q (leaves p h r) → In (path ++ q) (leaves p h to)
+  pub read_leaves : (i h to at : ℕ) (qs : List (List PathStep)) → IsIn p i h → IsAt p i (Read to at qs) → qs ≡ leaves p h to
+  pub grow_leaves : (i h n to at r : ℕ) (items : List ℕ) (site : Site) → IsIn p i h → IsAt p i (Grow to at items) → IsSiteOf p i n site → In r items → leaves p h r ≡ element_leaves site
+  pub static_fits : (i h target n : ℕ) (kind : Kind) (args : List ℕ) → IsIn p i h → IsAt p i kind → Hands kind (Static target) args n → FitsStatic p h target kind args
+  pub leave_count : (i h : ℕ) (from : List ℕ) (fn : Function) → IsFunction p h fn → IsIn p i h → IsAt p i (Leave from) → length from ≡ fn.results
   pub global_sites : HasGlobalSites p
   pub new_site : (i to s : ℕ) → IsAt p i (New to s) → HasOneSite p i s
   pub grow_site : (i to at : ℕ) (items : List ℕ) → IsAt p i (Grow to at items) → GrowSite p i
-  pub call_sites : (i g n : ℕ) (to args : List ℕ) (callee : Callee) (site : Site) → IsIn p i g → IsAt p i (Call to callee args) → IsSiteOf p i n site → CallSite p g to callee site
+  pub call_sites : (i h n : ℕ) (to args : List ℕ) (callee : Callee) (site : Site) → IsIn p i h → IsAt p i (Call to callee args) → IsSiteOf p i n site → CallSite p h to callee site
   pub no_other_site : HasSitesInOrder p
   pub site_function : (n h : ℕ) (site : Site) → slice_get p.sites n ≡ Some site → site.function ≡ Some h → FunctionSite p n h site
   pub site_shape : (n : ℕ) (site : Site) → slice_get p.sites n ≡ Some site → IsDistinct site.shape
   pub one_wrapper : HasWrappers p
-  pub wraps : (g h : ℕ) (fn : Function) → IsFunction p g fn → fn.wraps ≡ Some h → Wraps p fn h
+  pub wraps : (h declared : ℕ) (fn : Function) → IsFunction p h fn → fn.wraps ≡ Some declared → Wraps p fn declared
   pub environments : HasEnvironments p
-  pub identified : (g : ℕ) (fn : Function) (ident : Ident) → IsFunction p g fn → fn.ident ≡ Some ident → fn.role ≡ Own
+  pub identified : (h : ℕ) (fn : Function) (ident : Ident) → IsFunction p h fn → fn.ident ≡ Some ident → fn.role ≡ Own
   pub numbers : HasNumbers p
   -- only a Read or Move has tags
   pub tagged : (i : ℕ) (x : Instr) → slice_get p.instrs i ≡ Some x → x.tags ≢ [] → IsReadOrMove x.kind

@@ -79,7 +79,7 @@ static_fits p g h n fn _ args is fit (by_call {to = to}) =
       params = handed_args p g h fn args is t;
       no_env = t.no_env;
       results = λ to2 callee e. sym (ap length (same_to to to2 (Static h) callee args args e)) ∙ v.count;
-      returned = λ to2 from callee k r s e none at got back.
+      result_leaves = λ to2 from callee k r s e none at got back.
           let same = same_to to to2 (Static h) callee args args e in
           leaves_at p g r fn is ∙ given_leaves p.instrs fn t.target to from k r s v none at (ap (λ (l : List ℕ). slice_get l k) same ∙ got) back ∙ sym (leaves_at p h s t.target t.is);
     }
@@ -92,7 +92,7 @@ static_fits p g h n fn _ args is fit by_go =
       params = handed_args p g h fn args is t;
       no_env = t.no_env;
       results = λ to callee e. absurd cc;
-      returned = λ to from callee k r s e none at got back. absurd cc;
+      result_leaves = λ to from callee k r s e none at got back. absurd cc;
     }
 static_fits p g h n fn _ args is fit by_defer =
     let t = taken_by fn args (slice_get p.functions h) fit in
@@ -103,5 +103,5 @@ static_fits p g h n fn _ args is fit by_defer =
       params = handed_args p g h fn args is t;
       no_env = t.no_env;
       results = λ to callee e. absurd cc;
-      returned = λ to from callee k r s e none at got back. absurd cc;
+      result_leaves = λ to from callee k r s e none at got back. absurd cc;
     }

@@ -405,7 +405,7 @@ module _ (p : Code) (f : Facts p) where
     entry_function = entry_function;
     externals = externals;
     bodies = λ g fn is e. (let b = body p.instrs fn (fitted_at g fn is).frame e in (b.entry, b.exit));
-    begins = λ g fn is e. (body p.instrs fn (fitted_at g fn is).frame e).begins;
+    entry_goto = λ g fn is e. (body p.instrs fn (fitted_at g fn is).frame e).begins;
     no_entry = no_entry;
     stays = stays;
     runs_at_exit = record {

@@ -103,19 +103,19 @@ number_2 : (g : ℕ) (fn : Function) → IsFunction first_flow g fn → fn.entry
 number_2 = functions_are look (λ g fn. fn.entry ≤ 2 → 2 ≤ fn.leave → g ≡ 0) (λ a b. refl) (λ a b. absurd (omega arith)) (λ a b. absurd (omega arith)) (λ a b. absurd (omega arith))
 
 fits_2 : (g : ℕ) → (fn : Function) × IsFunction first_flow g fn × (fn.entry ≤ 2) × (2 ≤ fn.leave) → FitsStatic first_flow g 3 (Call [] (Static 3) []) []
-fits_2 g b = record { fn = (main_function look); is = refl; count = refl; params = λ k r e. absurd cc; no_env = refl; results = λ to callee e. (let x : [] ≡ to = cc in ap length (sym x)); returned = λ to from callee k r s e b lv a c. (let x : [] ≡ to = cc in let y = subst (λ (xs : List ℕ). slice_get xs k ≡ Some r) (sym x) a in absurd cc) }
+fits_2 g b = record { fn = (main_function look); is = refl; count = refl; params = λ k r e. absurd cc; no_env = refl; results = λ to callee e. (let x : [] ≡ to = cc in ap length (sym x)); result_leaves = λ to from callee k r s e b lv a c. (let x : [] ≡ to = cc in let y = subst (λ (xs : List ℕ). slice_get xs k ≡ Some r) (sym x) a in absurd cc) }
 
 number_15 : (g : ℕ) (fn : Function) → IsFunction first_flow g fn → fn.entry ≤ 15 → 15 ≤ fn.leave → g ≡ 3
 number_15 = functions_are look (λ g fn. fn.entry ≤ 15 → 15 ≤ fn.leave → g ≡ 3) (λ a b. absurd (omega arith)) (λ a b. absurd (omega arith)) (λ a b. absurd (omega arith)) (λ a b. refl)
 
 fits_15 : (g : ℕ) → (fn : Function) × IsFunction first_flow g fn × (fn.entry ≤ 15) × (15 ≤ fn.leave) → FitsStatic first_flow g 1 (Call (0 ∷ []) (Static 1) []) []
-fits_15 g b = record { fn = (source_function look); is = refl; count = refl; params = λ k r e. absurd cc; no_env = refl; results = λ to callee e. (let x : (0 ∷ []) ≡ to = cc in ap length (sym x)); returned = λ to from callee k r s e body lv a c. (let x : (0 ∷ []) ≡ to = cc in let y = only_one 0 r k (subst (λ (xs : List ℕ). slice_get xs k ≡ Some r) (sym x) a) in let f : (0 ∷ []) ≡ from = cc in let v = only_one 0 s k (subst (λ (xs : List ℕ). slice_get xs k ≡ Some s) (sym f) c) in let z = number_15 g b.0 b.1 b.2 b.3 in subst (λ n. leaves first_flow n r ≡ leaves first_flow 1 s) (sym z) (subst (λ n. leaves first_flow 3 n ≡ leaves first_flow 1 s) y.1 (subst (λ n. leaves first_flow 3 0 ≡ leaves first_flow 1 n) v.1 refl))) }
+fits_15 g b = record { fn = (source_function look); is = refl; count = refl; params = λ k r e. absurd cc; no_env = refl; results = λ to callee e. (let x : (0 ∷ []) ≡ to = cc in ap length (sym x)); result_leaves = λ to from callee k r s e body lv a c. (let x : (0 ∷ []) ≡ to = cc in let y = only_one 0 r k (subst (λ (xs : List ℕ). slice_get xs k ≡ Some r) (sym x) a) in let f : (0 ∷ []) ≡ from = cc in let v = only_one 0 s k (subst (λ (xs : List ℕ). slice_get xs k ≡ Some s) (sym f) c) in let z = number_15 g b.0 b.1 b.2 b.3 in subst (λ n. leaves first_flow n r ≡ leaves first_flow 1 s) (sym z) (subst (λ n. leaves first_flow 3 n ≡ leaves first_flow 1 s) y.1 (subst (λ n. leaves first_flow 3 0 ≡ leaves first_flow 1 n) v.1 refl))) }
 
 number_17 : (g : ℕ) (fn : Function) → IsFunction first_flow g fn → fn.entry ≤ 17 → 17 ≤ fn.leave → g ≡ 3
 number_17 = functions_are look (λ g fn. fn.entry ≤ 17 → 17 ≤ fn.leave → g ≡ 3) (λ a b. absurd (omega arith)) (λ a b. absurd (omega arith)) (λ a b. absurd (omega arith)) (λ a b. refl)
 
 fits_17 : (g : ℕ) → (fn : Function) × IsFunction first_flow g fn × (fn.entry ≤ 17) × (17 ≤ fn.leave) → FitsStatic first_flow g 2 (Call [] (Static 2) (1 ∷ [])) (1 ∷ [])
-fits_17 g b = record { fn = (sink_function look); is = refl; count = refl; params = λ k r e. (let x = only_one 1 r k e in let z = number_17 g b.0 b.1 b.2 b.3 in subst (λ n. leaves first_flow n r ≡ leaves first_flow 2 k) (sym z) (subst (λ n. leaves first_flow 3 n ≡ leaves first_flow 2 k) x.1 (subst (λ n. leaves first_flow 3 1 ≡ leaves first_flow 2 n) (sym x.0) refl))); no_env = refl; results = λ to callee e. (let x : [] ≡ to = cc in ap length (sym x)); returned = λ to from callee k r s e b lv a c. (let x : [] ≡ to = cc in let y = subst (λ (xs : List ℕ). slice_get xs k ≡ Some r) (sym x) a in absurd cc) }
+fits_17 g b = record { fn = (sink_function look); is = refl; count = refl; params = λ k r e. (let x = only_one 1 r k e in let z = number_17 g b.0 b.1 b.2 b.3 in subst (λ n. leaves first_flow n r ≡ leaves first_flow 2 k) (sym z) (subst (λ n. leaves first_flow 3 n ≡ leaves first_flow 2 k) x.1 (subst (λ n. leaves first_flow 3 1 ≡ leaves first_flow 2 n) (sym x.0) refl))); no_env = refl; results = λ to callee e. (let x : [] ≡ to = cc in ap length (sym x)); result_leaves = λ to from callee k r s e b lv a c. (let x : [] ≡ to = cc in let y = subst (λ (xs : List ℕ). slice_get xs k ≡ Some r) (sym x) a in absurd cc) }
 
 fits_at : (i : ℕ) (kind : Kind) → IsAt first_flow i kind → (g h : ℕ) (args : List ℕ) → IsIn first_flow i g → callee_of kind ≡ Some (Static h) → args_of kind ≡ args → FitsStatic first_flow g h kind args
 fits_at = at_place look (λ i kind. (g h : ℕ) (args : List ℕ) → IsIn first_flow i g → callee_of kind ≡ Some (Static h) → args_of kind ≡ args → FitsStatic first_flow g h kind args) (λ g h args inside e a. absurd cc, (λ g h args inside e a. absurd cc, (λ g h args inside e a. (let x : 3 ≡ h = cc in subst (λ n. FitsStatic first_flow g n (Call [] (Static 3) []) args) x (subst (λ (xs : List ℕ). FitsStatic first_flow g 3 (Call [] (Static 3) []) xs) a (fits_2 g (bounds_fn 2 g inside)))), (λ g h args inside e a. absurd cc, (λ g h args inside e a. absurd cc, (λ g h args inside e a. absurd cc, (λ g h args inside e a. absurd cc, (λ g h args inside e a. absurd cc, (λ g h args inside e a. absurd cc, (λ g h args inside e a. absurd cc, (λ g h args inside e a. absurd cc, (λ g h args inside e a. absurd cc, (λ g h args inside e a. absurd cc, (λ g h args inside e a. absurd cc, (λ g h args inside e a. absurd cc, (λ g h args inside e a. (let x : 1 ≡ h = cc in subst (λ n. FitsStatic first_flow g n (Call (0 ∷ []) (Static 1) []) args) x (subst (λ (xs : List ℕ). FitsStatic first_flow g 1 (Call (0 ∷ []) (Static 1) []) xs) a (fits_15 g (bounds_fn 15 g inside)))), (λ g h args inside e a. absurd cc, (λ g h args inside e a. (let x : 2 ≡ h = cc in subst (λ n. FitsStatic first_flow g n (Call [] (Static 2) (1 ∷ [])) args) x (subst (λ (xs : List ℕ). FitsStatic first_flow g 2 (Call [] (Static 2) (1 ∷ [])) xs) a (fits_17 g (bounds_fn 17 g inside)))), (λ g h args inside e a. absurd cc, (λ g h args inside e a. absurd cc, tt))))))))))))))))))))
@@ -157,7 +157,7 @@ well_formed = record {
   entry_function = record { fn = (entry_function look); is = refl; body = refl; params = refl; results = refl; own = refl; nameless = refl };
   externals = λ g flows fn is e. absurd (no_external look g fn is flows e);
   bodies = λ g fn is e. functions_are look (λ g fn. (fn.entry < fn.exit) × (fn.exit < fn.leave)) (omega arith, omega arith) (omega arith, omega arith) (omega arith, omega arith) (omega arith, omega arith) g fn is;
-  begins = λ g fn is e. functions_are look (λ g fn. IsAt first_flow fn.entry (Goto (fn.entry + 1))) refl refl refl refl g fn is;
+  entry_goto = λ g fn is e. functions_are look (λ g fn. IsAt first_flow fn.entry (Goto (fn.entry + 1))) refl refl refl refl g fn is;
   no_entry = goes_to_no_entry;
   stays = goes_inside;
   runs_at_exit = record {

@@ -86,7 +86,7 @@ module _ (s : System) (t : Tables) (wf : WellFormed s.program.now) (nodes : s.no
       goes_on target x = elim (subst (λ c. Hands c callee args n) (same_kind s.program.now e.fn.entry kind (Goto target) (subst (λ c. IsAt s.program.now c kind) e.at at) x) hands) [ ]
 
       never : (o : Option Bool) → e.fn.external ≡ o → ⊥
-      never None x = goes_on (e.fn.entry + 1) (wf.begins g e.fn e.is x)
+      never None x = goes_on (e.fn.entry + 1) (wf.entry_goto g e.fn e.is x)
       never (Some flows) x = goes_on e.fn.entry (wf.externals g flows e.fn e.is x).goto
 
   -- a leaf of a parameter
@@ -222,7 +222,7 @@ module _ (s : System) (t : Tables) (wf : WellFormed s.program.now) (nodes : s.no
       goes_on target x = let y = same_kind s.program.now e.fn.entry (Leave from) (Goto target) (subst (λ c. IsAt s.program.now c (Leave from)) e.at at) x in absurd cc
 
       never : (o : Option Bool) → e.fn.external ≡ o → ⊥
-      never None x = goes_on (e.fn.entry + 1) (wf.begins g' e.fn e.is x)
+      never None x = goes_on (e.fn.entry + 1) (wf.entry_goto g' e.fn e.is x)
       never (Some flows) x = goes_on e.fn.entry (wf.externals g' flows e.fn e.is x).goto
 
   module _ (i g : ℕ) (takes : Bool) (to args : List ℕ) (callee : Callee) (at : IsAt s.program.now i (Call to callee args)) (target : Target i g takes) where

@@ -78,8 +78,8 @@ module _ (s : System) (t : Tables) (wf : WellFormed s.program.now) (nodes : s.no
 
   pub kept : (f : Fact) → Holds s.program.now f → Kept f
   kept _ entry_is_live = entry
-  kept _ (target_is_live {g = g} i takes x) = target_live s t wf nodes all ds exact same done i g takes (kept (Targets i g takes) x)
-  kept _ (target_static {i = i} {g = g} h n kind args inside live at hands) = record {
+  kept _ (target_is_live {target = g} i takes x) = target_live s t wf nodes all ds exact same done i g takes (kept (Targets i g takes) x)
+  kept _ (target_static {i = i} {target = g} h n kind args inside live at hands) = record {
     function = h;
     inside = inside;
     live = kept (IsLive h) live;
@@ -91,12 +91,12 @@ module _ (s : System) (t : Tables) (wf : WellFormed s.program.now) (nodes : s.no
     hands = hands;
     aimed = by_number args n (record { kind = kind; is = at; hands = hands });
   }
-  kept _ (target_value {i = i} {g = g} {takes = takes} h n d j r site path kind args here fn inside live at hands def x is named isf env) =
+  kept _ (target_value {i = i} {target = g} {takes = takes} h n d j r site path kind args here fn inside live at hands def x is named isf env) =
       let l = kept (IsLive h) live in
       aimed h i n (length args) site g path takes kind (Value r) args inside l at hands refl (value_alone s.program.now wf h i n r kind args inside at hands)
       (sent h i n d j r (length args) site path kind (Value r) args inside l at hands (get-last args r) def (kept (NodeRefers (mark d j []) (loc site path)) x))
       (by_value r (record { here = here; at = is; named = named; fn = fn; is = isf; env = env }))
-  kept _ (target_method {i = i} {g = g} h n d j r site name path kind args here inside live at hands def x is listed) =
+  kept _ (target_method {i = i} {target = g} h n d j r site name path kind args here inside live at hands def x is listed) =
       let l = kept (IsLive h) live in
       let z : n ≡ n + 0 = omega arith in
       aimed h i n 0 site g path false kind (Method r name) args inside l at hands (ap (λ w. node i w 0) z) (method_alone s.program.now wf h i n r name kind args inside at hands)

@@ -50,7 +50,7 @@ module _ (p : Code) (wf : WellFormed p) where
       goes_on target h = elim (subst (λ c. Hands c callee args n) (same_kind p fn.entry kind (Goto target) (subst (λ c. IsAt p c kind) first at) h) hands) [ ]
 
       never : (o : Option Bool) → fn.external ≡ o → ⊥
-      never None e = goes_on (fn.entry + 1) (wf.begins g fn isf e)
+      never None e = goes_on (fn.entry + 1) (wf.entry_goto g fn isf e)
       never (Some flows) e = goes_on fn.entry (wf.externals g flows fn isf e).goto
   sent m x kind callee args n at hands low (result {i = i} {k = k} g takes to vs ce fn is target isf body within node t) =
       let o = hands_once (Call to ce vs) ce callee vs args (length to) n by_call (subst (λ c. Hands c callee args n) (same_kind p i kind (Call to ce vs) at is) hands) in

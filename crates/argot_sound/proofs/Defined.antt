@@ -25,7 +25,7 @@ module _ (p : Code) (wf : WellFormed p) where
 
   -- a Goto stands at the first place of each function
   entry_case : (i g : ℕ) (e : IsEntry p i g) (o : Option Bool) → e.fn.external ≡ o → (j : ℕ) × IsAt p i (Goto j)
-  entry_case i g e None x = (_, subst (λ n. IsAt p n (Goto (e.fn.entry + 1))) (sym e.at) (wf.begins g e.fn e.is x))
+  entry_case i g e None x = (_, subst (λ n. IsAt p n (Goto (e.fn.entry + 1))) (sym e.at) (wf.entry_goto g e.fn e.is x))
   entry_case i g e (Some flows) x = (_, subst (λ n. IsAt p n (Goto e.fn.entry)) (sym e.at) (wf.externals g flows e.fn e.is x).goto)
 
   pub not_entry : (kind : Kind) (i : ℕ) → IsAt p i kind → ((j : ℕ) → kind ≡ Goto j → ⊥) → (g : ℕ) → IsEntry p i g → ⊥

@@ -82,7 +82,7 @@ module _ (p : Code) (wf : WellFormed p) (l : Labelling) where
   target_function : {i h : ℕ} {takes : Bool} → Holds p (Targets i h takes) → (fn : Function) × IsFunction p h fn
   target_function {i} {h} (Rules.target_static g n kind args inside live at hands) = get_within p.functions h (wf.numbers.callee i h n kind args at hands)
   target_function (Rules.target_value g n d j r s path kind args site fn inside live at hands def refers is function isf env) = (fn, isf)
-  target_function (Rules.target_method {g = h} g n d j r s name path kind args site inside live at hands def refers is wrapper) = let a = wf.one_wrapper.is site.dynamic h name wrapper in (a.0, a.1)
+  target_function (Rules.target_method {target = h} g n d j r s name path kind args site inside live at hands def refers is wrapper) = let a = wf.one_wrapper.is site.dynamic h name wrapper in (a.0, a.1)
 
   pub has_step : {n : ℕ} {x : State} → Run p l n x → (g : ℕ) (f : Frame) (rest : List Frame) → slice_get x.goroutines g ≡ Some (f ∷ rest) → HasStep p l x g (f ∷ rest)
   unfolding AtExits

@@ -4,9 +4,9 @@ use Rattle.argot_plain.specs.Lists.{In}
 use Rattle.argot_facts.specs.Marked.{IsSet}
 use Rattle.argot_facts.proofs.pointing.flags_of.Given as goal
 
-abbrev pub invariant-loop-g : goal.invariant-loop-g
-invariant-loop-g l = record {
+abbrev pub invariant-loop-function : goal.invariant-loop-function
+invariant-loop-function l = record {
   count : length l.flags.items ≡ l.functions;
   only : (g : ℕ) → IsSet l.flags.items g → In g l.live;
-  there : (k g : ℕ) → k < l.g-index → slice_get l.live k ≡ Some g → IsSet l.flags.items g;
+  there : (k g : ℕ) → k < l.function-index → slice_get l.live k ≡ Some g → IsSet l.flags.items g;
 }
