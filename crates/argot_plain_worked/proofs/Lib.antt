@@ -9,3 +9,4 @@ pub mod FirstWell
 pub mod FirstFlowRead
 pub mod CalledMethodLeak
 pub mod DeferredLiteralLeak
+pub mod Related

@@ -19,7 +19,7 @@ it_runs = (
       (one_step 0 _ refl refl (act_enters [] (Static 6) [] 6 false function_6 refl refl by_number refl refl)))
       (one_step 0 _ refl refl (act_puts (Goto 30) [] 30 refl refl refl (refl, refl))))
       (one_step 0 _ refl refl (act_puts (Join 1 []) _ 31 refl refl (one_leaf ((Field 0) ∷ []) _ refl no_leaf) refl)))
-      (one_step 0 _ refl refl (act_puts (New 2 1) _ 32 refl refl refl refl)))
+      (one_step 0 _ refl refl (act_puts (New 2 0) _ 32 refl refl refl refl)))
       (one_step 0 _ refl refl (act_stores 2 1 _ _ _ 33 refl refl (here refl) refl refl)))
       (one_step 0 _ refl refl (act_puts (Move 0 2 []) _ 34 refl refl (one_leaf [] _ (pick_all refl) no_leaf) refl)))
       (one_step 0 _ refl refl (act_puts (Step 3 0 ((Field 0) ∷ [])) _ 35 refl refl (_, here refl, refl) refl)))

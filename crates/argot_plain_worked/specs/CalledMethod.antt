@@ -29,6 +29,8 @@ use Rattle.argot_plain.specs.declared.instructions.Kind.{Kind}
 use Rattle.argot_plain.specs.declared.instructions.Kind.TheVariants.{Branch, Call, Goto, Join, Leave, Move, New, Op, Read, RunDefers, Write}
 use Rattle.argot_plain.specs.declared.problems.Problem.{Problem}
 use Rattle.argot_text.specs.declared.position.Pos.{Pos}
+use Rattle.argot_plain.specs.WellFormed.{WellFormed}
+use Rattle.argot_plain_worked_rules.specs.Worked.{HasFlow, HasNoEdge}
 
 abbrev at : ℕ → ℕ → Pos
 at line col = record { file = 0; line = line; col = col }
@@ -107,3 +109,14 @@ ItEnds = (n : ℕ) × (x : State) × Run (calling 3) (labelled asked) n x × (x.
 -- some run of the second leads to a state in which the label of the call at the place 27 is on argument 0 of the call at the place 48
 abbrev pub ItLeaks : Type 0
 ItLeaks = (n : ℕ) × (x : State) × Run (calling 0) (labelled asked) n x × Leak (calling 0) asked x 27 48 0
+
+abbrev pub BothAreWellFormed : Type 0
+BothAreWellFormed = WellFormed (calling 0) × WellFormed (calling 3)
+
+-- the relation has that flow of the second
+abbrev pub ItFlows : Type 0
+ItFlows = HasFlow (calling 0) asked 27 48 0
+
+-- what the method of the other type hands back comes to its own wrapper alone: not to the call in the one of the box's type
+abbrev pub ItIsAnotherMethod : Type 0
+ItIsAnotherMethod = HasNoEdge (calling 3) asked 31 0 58 0

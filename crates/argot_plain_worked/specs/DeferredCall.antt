@@ -23,6 +23,9 @@ use Rattle.argot_plain.specs.declared.instructions.Kind.{Kind}
 use Rattle.argot_plain.specs.declared.instructions.Kind.TheVariants.{Branch, Call, Defer, Goto, Leave, Move, Op, RunDefers}
 use Rattle.argot_plain.specs.declared.problems.Problem.{Problem}
 use Rattle.argot_text.specs.declared.position.Pos.{Pos}
+use Rattle.argot_plain.specs.WellFormed.{WellFormed}
+use Rattle.argot_plain_worked_rules.specs.Worked.{HasEdge, HasNoFlow}
+use Rattle.argot_facts.specs.declared.graphs.EdgeKind.TheVariants.{Call as Enters}
 
 abbrev pub at : ℕ → ℕ → Pos
 at line col = record { file = 0; line = line; col = col }
@@ -79,3 +82,14 @@ asked = record { number = 0; name = codes "p"; sources = (1 ∷ []); sinks = (2 
 -- some run leads to the end of the program
 abbrev pub ItEnds : Type 0
 ItEnds = (n : ℕ) × (x : State) × Run deferred_call (labelled asked) n x × (x.ended ≡ true)
+
+abbrev pub ItIsWellFormed : Type 0
+ItIsWellFormed = WellFormed deferred_call
+
+-- what line 9 hands on comes to the parameter of the sink
+abbrev pub ItIsHanded : Type 0
+ItIsHanded = HasEdge deferred_call asked 29 0 (Enters 29) 11 0
+
+-- the text of line 10 comes too late
+abbrev pub ItComesTooLate : Type 0
+ItComesTooLate = HasNoFlow deferred_call asked 30 29 0

@@ -21,6 +21,8 @@ use Rattle.argot_plain.specs.declared.instructions.Callee.TheVariants.{Static, V
 use Rattle.argot_plain.specs.declared.instructions.Kind.TheVariants.{Call, Defer, Goto, Leave, New, Op, Read, RunDefers, Step, Write}
 use Rattle.argot_text.specs.declared.path.PathStep.TheVariants.{Capture}
 use Rattle.argot_plain_worked.specs.DeferredCall.{at, instr, function_0, function_1, function_2, function_3, function_4, helpers, asked}
+use Rattle.argot_plain.specs.WellFormed.{WellFormed}
+use Rattle.argot_plain_worked_rules.specs.Worked.{HasFlow, HasNoEdge}
 
 -- main.main
 abbrev pub function_5 : Function
@@ -45,3 +47,14 @@ deferred_literal = record {
 -- some run leads to a state in which the label of the call at the place 34 is on argument 0 of the call at the place 42
 abbrev pub ItLeaks : Type 0
 ItLeaks = (n : ℕ) × (x : State) × Run deferred_literal (labelled asked) n x × Leak deferred_literal asked x 34 42 0
+
+abbrev pub ItIsWellFormed : Type 0
+ItIsWellFormed = WellFormed deferred_literal
+
+-- so the relation has that flow
+abbrev pub ItFlows : Type 0
+ItFlows = HasFlow deferred_literal asked 34 42 0
+
+-- what is captured is the variable: the secret comes to the sink through it, and by no edge from its call
+abbrev pub ItIsTheVariable : Type 0
+ItIsTheVariable = HasNoEdge deferred_literal asked 34 0 42 0

@@ -26,6 +26,8 @@ use Rattle.argot_plain.specs.declared.instructions.Kind.TheVariants.{Branch, Cal
 use Rattle.argot_plain.specs.declared.problems.Problem.{Problem}
 use Rattle.argot_text.specs.declared.position.Pos.{Pos}
 use Rattle.argot_text.specs.declared.path.PathStep.TheVariants.{Field}
+use Rattle.argot_plain.specs.WellFormed.{WellFormed}
+use Rattle.argot_plain_worked_rules.specs.Worked.{HasFlow, HasNoEdge}
 
 abbrev at : ℕ → ℕ → Pos
 at line col = record { file = 0; line = line; col = col }
@@ -84,3 +86,14 @@ asked = record { number = 0; name = codes "p"; sources = (1 ∷ []); sinks = (2 
 -- some run leads to a state in which the label of the call at the place 28 is on argument 0 of the call at the place 40
 abbrev pub ItLeaks : Type 0
 ItLeaks = (n : ℕ) × (x : State) × Run filled_box (labelled asked) n x × Leak filled_box asked x 28 40 0
+
+abbrev pub ItIsWellFormed : Type 0
+ItIsWellFormed = WellFormed filled_box
+
+-- so the relation has that flow
+abbrev pub ItFlows : Type 0
+ItFlows = HasFlow filled_box asked 28 40 0
+
+-- what line 8 writes, at the place 29, comes to the sink through the box alone: no edge leads to its parameter
+abbrev pub ItIsNotHanded : Type 0
+ItIsNotHanded = HasNoEdge filled_box asked 29 0 11 0

@@ -4,7 +4,7 @@
 --   3 func sink(x string) {}
 --   4 func sanitize(x string) string { return x }
 --   5 func validate(x string) bool { return x == "a" }
---   6 var c bool
+--   6
 --   7 type Box struct{ v string }
 --   8 func touch(b *Box) {}
 --   9 func main() {
@@ -26,6 +26,9 @@ use Rattle.argot_plain.specs.declared.instructions.Kind.TheVariants.{Branch, Cal
 use Rattle.argot_plain.specs.declared.problems.Problem.{Problem}
 use Rattle.argot_text.specs.declared.position.Pos.{Pos}
 use Rattle.argot_text.specs.declared.path.PathStep.TheVariants.{Field}
+use Rattle.argot_plain.specs.WellFormed.{WellFormed}
+use Rattle.argot_plain_worked_rules.specs.Worked.{HasEdge, HasNoFlow}
+use Rattle.argot_facts.specs.declared.graphs.EdgeKind.TheVariants.{Plain}
 
 abbrev at : ℕ → ℕ → Pos
 at line col = record { file = 0; line = line; col = col }
@@ -70,9 +73,9 @@ read_first = record {
       ∷ instr 4 6 (Goto 15) ∷ instr 4 34 (Move 1 0 []) ∷ instr 4 34 (Goto 17) ∷ instr 4 43 (RunDefers) ∷ instr 4 43 (Leave (1 ∷ []))
       ∷ instr 5 6 (Goto 20) ∷ instr 5 44 (Op 2 []) ∷ instr 5 39 (Op 3 (0 ∷ 2 ∷ [])) ∷ instr 5 32 (Move 1 3 []) ∷ instr 5 32 (Goto 24) ∷ instr 5 48 (RunDefers) ∷ instr 5 48 (Leave (1 ∷ []))
       ∷ instr 8 6 (Goto 27) ∷ instr 8 21 (RunDefers) ∷ instr 8 21 (Leave [])
-      ∷ instr 9 6 (Goto 30) ∷ instr 10 8 (Join 1 []) ∷ instr 10 7 (New 2 1) ∷ instr 10 7 (Write 2 1) ∷ instr 10 2 (Move 0 2 []) ∷ instr 11 7 (Step 3 0 ((Field 0) ∷ [])) ∷ instr 11 7 (Read 4 3 ([] ∷ [])) ∷ instr 11 2 (Call [] (Static 2) (4 ∷ [])) ∷ instr 12 2 (Step 5 0 ((Field 0) ∷ [])) ∷ instr 12 8 (Call (6 ∷ []) (Static 1) []) ∷ instr 12 2 (Write 5 6) ∷ instr 13 1 (RunDefers) ∷ instr 13 1 (Leave []) ∷ [];
-  sites = (record { place = 0; result = 0; leaf = 0; shape = ([] ∷ []); dynamic = 21; function = None } ∷ record { place = 31; result = 0; leaf = 0; shape = (((Field 0) ∷ []) ∷ []); dynamic = 34; function = None } ∷ []);
-  globals = ((record { «package» = codes "main"; receiver = []; name = codes "c" }, at 6 5, 0) ∷ []);
+      ∷ instr 9 6 (Goto 30) ∷ instr 10 8 (Join 1 []) ∷ instr 10 7 (New 2 0) ∷ instr 10 7 (Write 2 1) ∷ instr 10 2 (Move 0 2 []) ∷ instr 11 7 (Step 3 0 ((Field 0) ∷ [])) ∷ instr 11 7 (Read 4 3 ([] ∷ [])) ∷ instr 11 2 (Call [] (Static 2) (4 ∷ [])) ∷ instr 12 2 (Step 5 0 ((Field 0) ∷ [])) ∷ instr 12 8 (Call (6 ∷ []) (Static 1) []) ∷ instr 12 2 (Write 5 6) ∷ instr 13 1 (RunDefers) ∷ instr 13 1 (Leave []) ∷ [];
+  sites = (record { place = 31; result = 0; leaf = 0; shape = (((Field 0) ∷ []) ∷ []); dynamic = 34; function = None } ∷ []);
+  globals = [];
   methods = [];
   implements = [];
   files = codes "main.go" ∷ [];
@@ -84,3 +87,14 @@ asked = record { number = 0; name = codes "p"; sources = (1 ∷ []); sinks = (2 
 -- some run leads to the end of the program
 abbrev pub ItEnds : Type 0
 ItEnds = (n : ℕ) × (x : State) × Run read_first (labelled asked) n x × (x.ended ≡ true)
+
+abbrev pub ItIsWellFormed : Type 0
+ItIsWellFormed = WellFormed read_first
+
+-- the text of line 12 comes to what is written there
+abbrev pub ItIsWritten : Type 0
+ItIsWritten = HasEdge read_first asked 38 0 Plain 39 0
+
+-- and not to the sink, which read the box before: no other goroutine has the box, and nothing leads back
+abbrev pub ItComesTooLate : Type 0
+ItComesTooLate = HasNoFlow read_first asked 38 36 0

@@ -28,17 +28,17 @@ use Rattle.argot_plain_worked_rules.specs.TracedBack as TracedBack
 use Rattle.argot_plain_worked_rules.specs.Variables as Variables
 use Rattle.argot_plain_worked_rules.proofs.Small.{own_site, below}
 
-stands_in : (p : Code) (i g : ℕ) (fn : Function) → IsFunction p g fn → nat_le fn.entry i ≡ true → nat_le i fn.leave ≡ true → IsIn p i g
+pub stands_in : (p : Code) (i g : ℕ) (fn : Function) → IsFunction p g fn → nat_le fn.entry i ≡ true → nat_le i fn.leave ≡ true → IsIn p i g
 stands_in p i g fn is low high = record { fn = fn; is = is; low = leb-true fn.entry i low; high = leb-true i fn.leave high }
 
-marked : (p : Code) (i k : ℕ) (q : List PathStep) → HasLeaf p i k 0 q → IsMarked p (node i k) (mark i k q)
+pub marked : (p : Code) (i k : ℕ) (q : List PathStep) → HasLeaf p i k 0 q → IsMarked p (node i k) (mark i k q)
 marked p i k q has = record { place = refl; index = refl; has = has }
 
 -- main is live, and so are its places
 main_is_live : (p : Code) → IsFunction p 0 entry_function → IsAt p 2 (Call [] (Static 3) []) → Holds p (IsLive 3)
 main_is_live p is at = target_is_live 2 false (target_static 0 0 (Call [] (Static 3) []) [] (stands_in p 2 0 entry_function is refl refl) entry_is_live at by_call)
 
-live_place : (p : Code) (i g : ℕ) → IsIn p i g → Holds p (IsLive g) → IsLivePlace p i
+pub live_place : (p : Code) (i g : ℕ) → IsIn p i g → Holds p (IsLive g) → IsLivePlace p i
 live_place p i g inside live = record { function = g; is_in = inside; is_live = live }
 
 abbrev is_entry : ℕ → List Function → Bool
