@@ -1,6 +1,5 @@
 -- Rows that have what steps lead to.
-use Rattle.std.proofs.Common.{◌≡◌, ℕ, ◌<◌, true, List, [], ◌∷◌, refl, sym, ap, inl, inr, arith, subst}
-use Rattle.std.specs.Prelude.{◌⊎◌}
+use Rattle.std.proofs.Common.{◌≡◌, ℕ, ◌<◌, true, List, [], ◌∷◌, sym, ap, inl, inr, arith, subst}
 use Rattle.argot_links.specs.Pairs.{AddsPair, JoinsRow}
 use Rattle.argot_links.specs.Table.{Table, has}
 use Rattle.argot_plain.specs.Lists.{In, here, there}

@@ -1,4 +1,4 @@
-use Rattle.std.proofs.Common.{◌≡◌, ◌<◌, ℕ, length, ◌∙◌, arith}
+use Rattle.std.proofs.Common.{◌∙◌, arith}
 use Rattle.argot_control.proofs.Led.{led_added, led_joined}
 use Rattle.argot_control.proofs.rows.take.Goals as goal
 

@@ -1,4 +1,4 @@
-use Rattle.std.proofs.Common.{ℕ, ◌≡◌, ◌<◌, ap, sym, arith}
+use Rattle.std.proofs.Common.{arith}
 use Rattle.argot_control.proofs.Led.{below_none, below_more}
 use Rattle.argot_control.proofs.tests.a_row_has_what_steps_lead_to.Goals as goal
 
