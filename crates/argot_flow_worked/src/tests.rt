@@ -2,8 +2,9 @@
 ghost use Rattle.std.specs.Prelude.{◌<◌};
 
 use crate::graph_of_call;
-use argot_facts::Same;
+use argot_facts::{Edge, EdgeKind, Same};
 use argot_flow::Reach;
+use argot_graph::turn;
 use argot_summary::summarise;
 use std::test::Fail;
 
@@ -36,5 +37,25 @@ fn a_call_is_led_over(rt: HostRuntime) -> Result<(), Fail> {
     assert!(rt; has_ranks(&reach, Some(0), Some(2), Some(1)));
     reach.run(2);
     assert!(rt; has_ranks(&reach, None, Some(0), Some(1)));
+    Ok(())
+}
+
+// Whether the edge of this number is that one.
+fn is_edge(edges: &[Edge], number: usize, from: u32, to: u32, kind: EdgeKind) -> bool {
+    number < edges.len() && edges[number] == Edge { from, to, kind }
+}
+
+// From the end of each edge to its start; what came back from the call now enters by it.
+#[test]
+fn a_call_is_turned_into_a_return(rt: HostRuntime) -> Result<(), Fail> {
+    let graph = graph_of_call(rt.alloc())?;
+    let turned = turn(&rt, rt.alloc(), &graph)?;
+    let edges = turned.edges().as_slice();
+    assert!(rt; turned.nodes().len() == 4);
+    assert!(rt; edges.len() == 4);
+    assert!(rt; is_edge(edges, 0, 1, 0, EdgeKind::Return(5)));
+    assert!(rt; is_edge(edges, 1, 1, 3, EdgeKind::Return(6)));
+    assert!(rt; is_edge(edges, 2, 2, 1, EdgeKind::Plain));
+    assert!(rt; is_edge(edges, 3, 3, 2, EdgeKind::Call(5)));
     Ok(())
 }

@@ -1,0 +1,4 @@
+pub mod Ordering
+pub mod Members
+pub mod Once
+pub mod Turns
