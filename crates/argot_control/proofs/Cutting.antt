@@ -101,7 +101,7 @@ none_behind [] i h = refl
 none_behind (x ∷ xs) zero h = absurd (omega arith)
 none_behind (x ∷ xs) (suc i) h = none_behind xs i (omega arith)
 
-block_there : (numbers : List ℕ) (i a : ℕ) → slice_get numbers i ≡ Some a → block_in numbers i ≡ a
+pub block_there : (numbers : List ℕ) (i a : ℕ) → slice_get numbers i ≡ Some a → block_in numbers i ≡ a
 block_there numbers i a h = ap (λ o. number_or o (length numbers + i)) h
 
 block_behind : (numbers : List ℕ) (i : ℕ) → length numbers ≤ i → block_in numbers i ≡ length numbers + i

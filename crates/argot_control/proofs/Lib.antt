@@ -3,3 +3,8 @@ pub mod Straight
 pub mod Led
 pub mod Between
 pub mod Cutting
+pub mod Gaining
+pub mod Followed
+pub mod Reached
+pub mod Flagging
+pub mod Pairing
