@@ -1,5 +1,6 @@
 // What a command prints.
 use crate::definitions::push_definitions;
+use crate::escapes::push_escapes;
 use crate::limits::push_limits;
 use crate::problems::push_answer;
 use crate::references::push_references;
@@ -31,6 +32,9 @@ pub fn of_program(alloc: Global, command: &Command, file: &str, text: &str) -> R
     match (read_program(alloc, text)?, command.show) {
         (Some(program), Show::References) => {
             push_references(alloc, &mut out, &program, command.form)?;
+        }
+        (Some(program), Show::Escapes) => {
+            push_escapes(alloc, &mut out, &program, command.form)?;
         }
         (Some(program), _) => push_definitions(alloc, &mut out, &program, command.form)?,
         (None, _) => out.push_str("no program\n")?,

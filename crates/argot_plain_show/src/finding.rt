@@ -1,8 +1,9 @@
 // The relation of a program, by the body that is asked for.
 ghost use Rattle.std.specs.Prelude.{IfOk, IfErr};
-ghost use Rattle.argot_facts.specs.Exact.{AreDefs, ArePoints};
+ghost use Rattle.argot_facts.specs.Exact.{AreDefs, AreEscaping, ArePoints};
 ghost use Rattle.argot_points.specs.Solving.{HasFew, HasMany};
 
+use argot_escape::escapes;
 use argot_facts::{Defs, Points};
 use argot_plain::Program;
 use argot_points::{PointsFault, Solver, solve};
@@ -49,4 +50,15 @@ pub fn points_by_passes(alloc: Global, program: &Program) -> Result<Points, Poin
 {
     let found = definitions(alloc, program)?;
     solve_by_passes(alloc, program, &found)
+}
+
+/// Which sites escape.
+pub fn escaping(alloc: Global, program: &Program) -> Result<Vec<bool>, PointsFault>
+    ensures { IfOk result (λ v. AreEscaping program.now v.items) }
+{
+    let points = points(alloc, program)?;
+    match escapes(alloc, program, &points) {
+        Ok(sites) => Ok(sites),
+        Err(Memory) => Err(PointsFault::Memory),
+    }
 }

@@ -5,6 +5,7 @@
 //!     definitions [-count] FILE..             reaching definitions (`definitions.rt` has the form of the lines)
 //!     references [-passes | -both] FILE..     references, live functions and targets: by the worklist, in passes, or by
 //!                                             both, compared (`relation.rt`)
+//!     escapes [-count] FILE..                 which sites escape (`escapes.rt`)
 //!     limits                                  references of programs at the limits and one over (`limits.rt`)
 //!     problems [-count] CONFIG FILE           what a configuration, or an empty file, asks of a program (`problems.rt`)
 //!     rows ROWS COLUMNS ROUNDS                how many joins change a row of a table (`rows.rt`)
@@ -14,6 +15,7 @@
 
 mod answer;
 mod definitions;
+mod escapes;
 mod finding;
 mod limits;
 mod problems;
@@ -64,7 +66,9 @@ fn show_problems(rt: &HostRuntime, command: &Command) -> io::Result<()> {
 fn main(rt: HostRuntime) -> io::Result<()> {
     for command in &read_commands(&rt)? {
         match command.show {
-            Show::Definitions | Show::References => show_programs(&rt, command)?,
+            Show::Definitions | Show::References | Show::Escapes => {
+                show_programs(&rt, command)?;
+            }
             Show::Problems => show_problems(&rt, command)?,
             Show::Limits | Show::Rows => print(&rt, of_words(rt.alloc(), command))?,
         }

@@ -12,7 +12,8 @@ use std::alloc::Global;
 /// As many lines are printed at most.
 const MOST_LINES: u64 = 10_000;
 
-fn text_of(fault: PointsFault) -> &'static str {
+/// The words of a fault.
+pub fn text_of(fault: PointsFault) -> &'static str {
     match fault {
         PointsFault::Nodes => "too many nodes\n",
         PointsFault::Locations => "too many locations\n",

@@ -9,7 +9,9 @@ pub enum Show {
     Definitions,
     /// References, live functions and targets of programs.
     References,
-    /// The same of programs at the limits.
+    /// Which sites of programs escape.
+    Escapes,
+    /// References of programs at the limits.
     Limits,
     /// What a configuration asks of a program.
     Problems,
@@ -44,6 +46,7 @@ pub fn word_of(show: Show) -> &'static str {
     match show {
         Show::Definitions => "definitions",
         Show::References => "references",
+        Show::Escapes => "escapes",
         Show::Limits => "limits",
         Show::Problems => "problems",
         Show::Rows => "rows",
@@ -54,6 +57,7 @@ fn show_of(word: &str) -> Option<Show> {
     match word {
         "definitions" => Some(Show::Definitions),
         "references" => Some(Show::References),
+        "escapes" => Some(Show::Escapes),
         "limits" => Some(Show::Limits),
         "problems" => Some(Show::Problems),
         "rows" => Some(Show::Rows),
