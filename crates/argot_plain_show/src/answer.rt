@@ -1,4 +1,5 @@
 // What a command prints.
+use crate::control::push_control;
 use crate::definitions::push_definitions;
 use crate::escapes::push_escapes;
 use crate::limits::push_limits;
@@ -36,6 +37,7 @@ pub fn of_program(alloc: Global, command: &Command, file: &str, text: &str) -> R
         (Some(program), Show::Escapes) => {
             push_escapes(alloc, &mut out, &program, command.form)?;
         }
+        (Some(program), Show::Control) => push_control(alloc, &mut out, &program)?,
         (Some(program), _) => push_definitions(alloc, &mut out, &program, command.form)?,
         (None, _) => out.push_str("no program\n")?,
     }

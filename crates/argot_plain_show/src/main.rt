@@ -6,6 +6,7 @@
 //!     references [-passes | -both] FILE..     references, live functions and targets: by the worklist, in passes, or by
 //!                                             both, compared (`relation.rt`)
 //!     escapes [-count] FILE..                 which sites escape (`escapes.rt`)
+//!     control FILE..                          which reads may come after which writes (`control.rt`)
 //!     limits                                  references of programs at the limits and one over (`limits.rt`)
 //!     problems [-count] CONFIG FILE           what a configuration, or an empty file, asks of a program (`problems.rt`)
 //!     rows ROWS COLUMNS ROUNDS                how many joins change a row of a table (`rows.rt`)
@@ -14,6 +15,7 @@
 #![tactic(auto)]
 
 mod answer;
+mod control;
 mod definitions;
 mod escapes;
 mod finding;
@@ -66,7 +68,7 @@ fn show_problems(rt: &HostRuntime, command: &Command) -> io::Result<()> {
 fn main(rt: HostRuntime) -> io::Result<()> {
     for command in &read_commands(&rt)? {
         match command.show {
-            Show::Definitions | Show::References | Show::Escapes => {
+            Show::Definitions | Show::References | Show::Escapes | Show::Control => {
                 show_programs(&rt, command)?;
             }
             Show::Problems => show_problems(&rt, command)?,

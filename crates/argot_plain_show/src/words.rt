@@ -11,6 +11,8 @@ pub enum Show {
     References,
     /// Which sites of programs escape.
     Escapes,
+    /// Control order of programs.
+    Control,
     /// References of programs at the limits.
     Limits,
     /// What a configuration asks of a program.
@@ -47,6 +49,7 @@ pub fn word_of(show: Show) -> &'static str {
         Show::Definitions => "definitions",
         Show::References => "references",
         Show::Escapes => "escapes",
+        Show::Control => "control",
         Show::Limits => "limits",
         Show::Problems => "problems",
         Show::Rows => "rows",
@@ -58,6 +61,7 @@ fn show_of(word: &str) -> Option<Show> {
         "definitions" => Some(Show::Definitions),
         "references" => Some(Show::References),
         "escapes" => Some(Show::Escapes),
+        "control" => Some(Show::Control),
         "limits" => Some(Show::Limits),
         "problems" => Some(Show::Problems),
         "rows" => Some(Show::Rows),
