@@ -1,0 +1,16 @@
+pub mod Setting
+pub mod Wrapping
+pub mod Pushed
+pub mod Membership
+pub mod Counting
+pub mod Handing
+pub mod Naming
+pub mod Playing
+pub mod Nodes
+pub mod Listing
+pub mod Linked
+pub mod Ordering
+pub mod Once
+pub mod Members
+pub mod Joined
+pub mod Flowing

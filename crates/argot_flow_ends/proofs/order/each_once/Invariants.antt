@@ -1,0 +1,5 @@
+use Rattle.argot_flow_ends.proofs.Once.{AreKept}
+use Rattle.argot_flow_ends.proofs.order.each_once.Given as goal
+
+abbrev pub invariant-loop-k : goal.invariant-loop-k
+invariant-loop-k l = AreKept l.flows l.kept.items l.k

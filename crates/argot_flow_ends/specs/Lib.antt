@@ -1,0 +1,6 @@
+pub mod Marking
+pub mod Counting
+pub mod Roles
+pub mod Ends
+pub mod Linking
+pub mod Order
