@@ -10,7 +10,5 @@ pub mod Nodes
 pub mod Listing
 pub mod Linked
 pub mod Ordering
-pub mod Once
-pub mod Members
 pub mod Joined
 pub mod Flowing

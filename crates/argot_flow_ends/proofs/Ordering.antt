@@ -1,47 +1,13 @@
 -- The order on flows by their keys is the order of findings.
-use Rattle.std.proofs.Common.{◌≡◌, ℕ, ◌<◌, false, refl, sym, ap, ◌∙◌, inl, inr, arith}
+use Rattle.std.proofs.Common.{◌≡◌, false, sym, ap, ◌∙◌, inl, inr}
 use Rattle.std.specs.Prelude.{◌⊎◌}
 use Rattle.std.specs.Ordering.{nat_cmp, ordering_then, is_lt}
 use Rattle.std.specs.declared.cmp.Ordering.{Ordering}
-use Rattle.std.specs.declared.cmp.Ordering.TheVariants.{Less, Equal, Greater}
-use Rattle.std.specs.Cmp.{nat_cmp_is}
-use Rattle.std.proofs.lemmas.Bool.{cases_lt}
+use Rattle.std.specs.declared.cmp.Ordering.TheVariants.{Equal, Greater}
 use Rattle.argot_facts.specs.Findings.{FlowBefore, by_problem, by_source, by_sink, by_argument}
 use Rattle.argot_facts.specs.declared.findings.Flow.{Flow}
 use Rattle.argot_flow_ends.specs.Order.{key_of, key_cmp}
-
-above : (x y : ℕ) → nat_cmp x y ≡ Greater → y < x
-above x y e = elim (cases_lt y x) [
-  | inl l ↦ l
-  | inr l ↦ elim (cases_lt x y) [
-    | inl m ↦ (let z : Less ≡ Greater = nat_cmp_is x y Less m ∙ e in absurd cc)
-    | inr m ↦ (let z : Equal ≡ Greater = nat_cmp_is x y Equal (omega arith) ∙ e in absurd cc)
-  ]
-]
-
-level : (x y : ℕ) → nat_cmp x y ≡ Equal → x ≡ y
-level x y e = elim (cases_lt y x) [
-  | inl l ↦ (let z : Greater ≡ Equal = nat_cmp_is x y Greater l ∙ e in absurd cc)
-  | inr l ↦ elim (cases_lt x y) [
-    | inl m ↦ (let z : Less ≡ Equal = nat_cmp_is x y Less m ∙ e in absurd cc)
-    | inr m ↦ omega arith
-  ]
-]
-
-greater_of : (p q : Ordering) → ordering_then p q ≡ Greater → (p ≡ Greater) ⊎ ((p ≡ Equal) × (q ≡ Greater))
-greater_of Less q e = absurd cc
-greater_of Equal q e = inr (refl, e)
-greater_of Greater q e = inl refl
-
-equal_of : (p q : Ordering) → ordering_then p q ≡ Equal → (p ≡ Equal) × (q ≡ Equal)
-equal_of Less q e = absurd cc
-equal_of Equal q e = (refl, e)
-equal_of Greater q e = absurd cc
-
-not_less : (o : Ordering) → is_lt o ≡ false → (o ≡ Greater) ⊎ (o ≡ Equal)
-not_less Less e = absurd cc
-not_less Equal e = inr refl
-not_less Greater e = inl refl
+use Rattle.argot_graph.proofs.Comparing.{above, level, greater_of, equal_of, not_less}
 
 one_flow : (a b : Flow) → a.problem ≡ b.problem → a.source ≡ b.source → a.sink ≡ b.sink → a.arg ≡ b.arg → a ≡ b
 one_flow a b p q r s =

@@ -1,3 +1,4 @@
+pub mod Comparing
 pub mod Ordering
 pub mod Members
 pub mod Once

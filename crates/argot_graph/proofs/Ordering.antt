@@ -1,49 +1,15 @@
 -- The order on edges by their keys is the order of graphs.
-use Rattle.std.proofs.Common.{◌≡◌, ℕ, ◌<◌, false, refl, sym, ap, ◌∙◌, inl, inr, arith}
+use Rattle.std.proofs.Common.{◌≡◌, ◌<◌, false, refl, sym, ap, ◌∙◌, inl, inr, arith}
 use Rattle.std.specs.Prelude.{◌⊎◌}
 use Rattle.std.specs.Ordering.{nat_cmp, ordering_then, is_lt}
 use Rattle.std.specs.declared.cmp.Ordering.{Ordering}
-use Rattle.std.specs.declared.cmp.Ordering.TheVariants.{Less, Equal, Greater}
-use Rattle.std.specs.Cmp.{nat_cmp_is}
-use Rattle.std.proofs.lemmas.Bool.{cases_lt}
+use Rattle.std.specs.declared.cmp.Ordering.TheVariants.{Equal, Greater}
 use Rattle.argot_facts.specs.Graphs.{EdgeBefore, by_from, by_to, by_kind, KindBefore, plain_call, plain_return, plain_reset, call_call, call_return, call_reset, return_return, return_reset}
 use Rattle.argot_facts.specs.declared.graphs.Edge.{Edge}
 use Rattle.argot_facts.specs.declared.graphs.EdgeKind.{EdgeKind}
 use Rattle.argot_facts.specs.declared.graphs.EdgeKind.TheVariants.{Plain, Call, Return, Reset}
 use Rattle.argot_graph.specs.Order.{rank_of, call_of, key_of, key_cmp}
-
-above : (x y : ℕ) → nat_cmp x y ≡ Greater → y < x
-above x y e = elim (cases_lt y x) [
-  | inl l ↦ l
-  | inr l ↦ elim (cases_lt x y) [
-    | inl m ↦ (let z : Less ≡ Greater = nat_cmp_is x y Less m ∙ e in absurd cc)
-    | inr m ↦ (let z : Equal ≡ Greater = nat_cmp_is x y Equal (omega arith) ∙ e in absurd cc)
-  ]
-]
-
-level : (x y : ℕ) → nat_cmp x y ≡ Equal → x ≡ y
-level x y e = elim (cases_lt y x) [
-  | inl l ↦ (let z : Greater ≡ Equal = nat_cmp_is x y Greater l ∙ e in absurd cc)
-  | inr l ↦ elim (cases_lt x y) [
-    | inl m ↦ (let z : Less ≡ Equal = nat_cmp_is x y Less m ∙ e in absurd cc)
-    | inr m ↦ omega arith
-  ]
-]
-
-greater_of : (p q : Ordering) → ordering_then p q ≡ Greater → (p ≡ Greater) ⊎ ((p ≡ Equal) × (q ≡ Greater))
-greater_of Less q e = absurd cc
-greater_of Equal q e = inr (refl, e)
-greater_of Greater q e = inl refl
-
-equal_of : (p q : Ordering) → ordering_then p q ≡ Equal → (p ≡ Equal) × (q ≡ Equal)
-equal_of Less q e = absurd cc
-equal_of Equal q e = (refl, e)
-equal_of Greater q e = absurd cc
-
-not_less : (o : Ordering) → is_lt o ≡ false → (o ≡ Greater) ⊎ (o ≡ Equal)
-not_less Less e = absurd cc
-not_less Equal e = inr refl
-not_less Greater e = inl refl
+use Rattle.argot_graph.proofs.Comparing.{above, level, greater_of, equal_of, not_less}
 
 -- two kinds with the same numbers are one
 one_kind : (a b : EdgeKind) → rank_of b ≡ rank_of a → call_of b ≡ call_of a → a ≡ b

@@ -4,7 +4,7 @@ use Rattle.std.proofs.lemmas.Option.{get_or_from_slice_get}
 use Rattle.std.specs.Ordering.{is_lt}
 use Rattle.argot_facts.proofs.Listed.{get_within}
 use Rattle.argot_flow_ends.specs.Order.{key_of, key_cmp}
-use Rattle.argot_flow_ends.proofs.Members.{permuted}
+use Rattle.argot_graph.proofs.Members.{permuted}
 use Rattle.argot_flow_ends.proofs.Ordering.{behind}
 use Rattle.argot_flow_ends.proofs.order.sort.Goals as goal
 

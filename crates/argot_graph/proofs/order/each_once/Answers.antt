@@ -1,3 +1,4 @@
+use Rattle.argot_facts.specs.Graphs.{EdgeBefore}
 use Rattle.std.proofs.Common.{◌≡◌, ◌+◌, ◌++◌, ◌∷◌, [], length, take, sym, ap, ◌∙◌, subst, arith}
 use Rattle.std.proofs.Math.Seq.{take-length}
 use Rattle.std.proofs.lemmas.Option.{get_or_from_slice_get}
@@ -8,7 +9,7 @@ use Rattle.argot_graph.proofs.order.each_once.Goals as goal
 use Rattle.argot_graph.proofs.order.each_once.Goals.{then-not-is_repeated+in_ok-push, else-not-is_repeated}
 
 pub loop-k-init : goal.loop-k-init
-loop-k-init c = subst (λ ks. AreKept c.args.edges.now ks 0) (sym c.new-kept.ensures.items) (nothing c.args.edges.now)
+loop-k-init c = subst (λ ks. AreKept EdgeBefore c.args.edges.now ks 0) (sym c.new-kept.ensures.items) (nothing EdgeBefore c.args.edges.now)
 
 pub loop-k-preserved : goal.loop-k-preserved
 loop-k-preserved c =
@@ -16,12 +17,12 @@ loop-k-preserved c =
     let at = get_at edges c.loop-k.k c.loop-k-test.true in
     elim c.if-not-is_repeated.branch [
       | then-not-is_repeated+in_ok-push w ↦
-          subst (λ ks. AreKept edges ks (c.loop-k.k + 1))
+          subst (λ ks. AreKept EdgeBefore edges ks (c.loop-k.k + 1))
           (sym (ap (λ v. v.items) w.kept-is ∙ (w.in_ok-push.ensures.items ∙ ap (λ x. c.loop-k.kept.items ++ x ∷ []) (get_or_from_slice_get edges c.loop-k.k at.0 _ at.1))))
-          (pushed edges c.loop-k.kept.items c.loop-k.k at.0 c.requires at.1 c.loop-k.invariant (c.is_repeated.ensures.no w.if-not-is_repeated.true))
+          (pushed EdgeBefore edges c.loop-k.kept.items c.loop-k.k at.0 c.requires at.1 c.loop-k.invariant (c.is_repeated.ensures.no w.if-not-is_repeated.true))
       | else-not-is_repeated w ↦
-          subst (λ ks. AreKept edges ks (c.loop-k.k + 1)) (sym (ap (λ v. v.items) w.kept-is))
-          (skipped edges c.loop-k.kept.items c.loop-k.k at.0 c.requires at.1 c.loop-k.invariant (c.is_repeated.ensures.yes w.if-not-is_repeated.false))
+          subst (λ ks. AreKept EdgeBefore edges ks (c.loop-k.k + 1)) (sym (ap (λ v. v.items) w.kept-is))
+          (skipped EdgeBefore edges c.loop-k.kept.items c.loop-k.k at.0 c.requires at.1 c.loop-k.invariant (c.is_repeated.ensures.yes w.if-not-is_repeated.false))
     ]
 
 pub returns-clause-ordered : goal.returns-clause-ordered
