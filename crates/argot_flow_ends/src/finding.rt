@@ -69,7 +69,7 @@ pub fn flows(
     requires points { ArePoints program.now points.now }
     requires graph { IsGraphOf program.now problem.now graph.now }
     requires summaries { AreSummaries graph.now.edges summaries.now }
-    ensures { IfOk result (λ v. AreFlowsOf program.now problem.now v.items) }
+    ensures flows { IfOk result (λ v. AreFlowsOf program.now problem.now v.items) }
 {
     let _one = workers;
     let _places = program.len();

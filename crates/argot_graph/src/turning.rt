@@ -56,7 +56,7 @@ fn copied(alloc: Global, nodes: &[Node]) -> Result<Vec<Node>, Memory>
 /// Memory comes where there is none for a second list of nodes and of edges. Reps, Horwitz and Sagiv (1995) go backwards so
 /// for a demand.
 pub fn turn(rt: &(impl Threads + Sync), alloc: Global, graph: &Graph) -> Result<Graph, Memory>
-    ensures { IfOk result (IsTurned graph.now) }
+    ensures turned { IfOk result (IsTurned graph.now) }
 {
     let nodes = copied(alloc, graph.nodes().as_slice())?;
     let mut edges = turned_all(alloc, graph.edges().as_slice())?;

@@ -22,6 +22,9 @@ returns g c =
     let all : c.in_ok-edges.edges.items ≡ map turned old.edges = c.in_ok-edges.ensures ∙ ap (map turned) (c.as_slice-2.ensures.value ∙ c.edges.ensures.edges) in
     let same : HaveSame c.in_ok-edges-2.edges.items (map turned old.edges) = subst (HaveSame c.in_ok-edges-2.edges.items) all c.in_ok-edges-2.ensures.same in
     let is = is_turned old c.nodes.ensures.well c.in_ok-edges-2.edges.items c.in_ok-edges-2.ensures.ordered same in
-    subst (IsTurned old) (sym c.from_parts.ensures)
-    (subst (λ ns. IsTurned old (record { nodes = ns; edges = c.from_vec-2.result })) (sym nodes)
-    (subst (λ es. IsTurned old (record { nodes = old.nodes; edges = es })) (sym c.from_vec-2.ensures) is))
+    record {
+      turned =
+          subst (IsTurned old) (sym c.from_parts.ensures)
+          (subst (λ ns. IsTurned old (record { nodes = ns; edges = c.from_vec-2.result })) (sym nodes)
+          (subst (λ es. IsTurned old (record { nodes = old.nodes; edges = es })) (sym c.from_vec-2.ensures) is));
+    }
