@@ -1,5 +1,5 @@
 -- The links of new names grow by one item after the other.
-use Rattle.std.proofs.Common.{◌≡◌, ℕ, ◌+◌, ◌<◌, List, [], ◌∷◌, ◌++◌, length, Bool, Option, Some, None, inl, inr, refl, sym, ap, ◌∙◌, subst, arith, length-append}
+use Rattle.std.proofs.Common.{◌≡◌, ℕ, ◌+◌, ◌<◌, List, [], ◌∷◌, ◌++◌, length, Bool, true, false, Option, Some, None, inl, inr, refl, sym, ap, ◌∙◌, subst, arith, length-append}
 use Rattle.std.specs.Prelude.{slice_get}
 use Rattle.std.proofs.lemmas.Bool.{cases_eq}
 use Rattle.std.proofs.lemmas.Option.{slice_get_within}
@@ -7,8 +7,9 @@ use Rattle.argot_tree.specs.declared.token.Token.{Token}
 use Rattle.argot_names_blocks.specs.declared.binding.Binding.{Binding}
 use Rattle.argot_files.proofs.Listed.{some_is}
 use Rattle.argot_names_blocks.proofs.Growing.{get_left, get_end}
+use Rattle.argot_names_scopes.proofs.Tabling.{is_key, key_is, that_key}
 use Rattle.argot_names_scopes.specs.Texts.{text_in}
-use Rattle.argot_names_scopes.specs.Tables.{Numbers, number_at, IsNewNamed, IsLastNew, AreBefores, AreLinksUpTo}
+use Rattle.argot_names_scopes.specs.Tables.{Numbers, number_at, Covers, CoversAt, IsNewNamed, IsLastNew, AreBefores, AreLinksUpTo}
 
 module _ (bytes : List ℕ) (tokens : List Token) (brought : List Binding) (news : List Bool) where
   abbrev New : ℕ → List ℕ → ℕ → Type 0
@@ -39,9 +40,41 @@ module _ (bytes : List ℕ) (tokens : List Token) (brought : List Binding) (news
   newer o t k n =
       record {
         there = λ i e. (omega (arith, some_is k i e), subst (New o t) (some_is k i e) n);
-        last = λ i j e l m. omega (arith, some_is k i e, l);
+        last = λ i j e l m. inl (omega (arith, some_is k i e, l));
         none = λ j e l m. absurd (cc);
       }
+
+  -- item k is covered by the last one
+  pub covered : (o : ℕ) (t : List ℕ) (k i : ℕ) (r : Option ℕ) → Last o t k r → r ≡ Some i → CoversAt brought i k → Last o t (k + 1) r
+  covered o t k i r h is by =
+      record {
+        there = λ j e.
+            let w = h.there j e in
+            (omega (arith, w.0), w.1);
+        last = λ m j e l n. elim (cases_eq j k) [
+          | inl same ↦ inr (subst (λ x. CoversAt brought x j) (some_is i m (sym is ∙ e)) (subst (CoversAt brought i) (sym same) by))
+          | inr apart ↦ h.last m j e (omega (arith, l, apart)) n
+        ];
+        none = λ j e l n. absurd (cc (e, is));
+      }
+
+  pub covers_at : (i k : ℕ) (a b : Binding) → slice_get brought i ≡ Some a → slice_get brought k ≡ Some b → Covers a b → CoversAt brought i k
+  covers_at i k a b e f by c d g h = subst (λ x. Covers x d) (some_is a c (sym e ∙ g)) (subst (λ x. Covers a x) (some_is b d (sym f ∙ h)) by)
+
+  -- where the last one of its block and text covers item k the table stays
+  pub stays : (k i : ℕ) (lasts : Numbers) (b : Binding) → ((o : ℕ) (t : List ℕ) → Last o t k (number_at lasts o t)) → slice_get brought k ≡ Some b → number_at lasts b.opens (text_in bytes tokens b.token) ≡ Some i → CoversAt brought i k → (o : ℕ) (t : List ℕ) → Last o t (k + 1) (number_at lasts o t)
+  stays k i lasts b h e is by o t = case (is_key b.opens (text_in bytes tokens b.token) o t) refl
+    where
+      case : (x : Bool) → is_key b.opens (text_in bytes tokens b.token) o t ≡ x → Last o t (k + 1) (number_at lasts o t)
+      case true f =
+          let same = key_is b.opens (text_in bytes tokens b.token) o t f in
+          subst (λ z. Last z t (k + 1) (number_at lasts z t)) same.0
+          (subst (λ z. Last b.opens z (k + 1) (number_at lasts b.opens z)) same.1 (covered b.opens (text_in bytes tokens b.token) k i (number_at lasts b.opens (text_in bytes tokens b.token)) (h b.opens (text_in bytes tokens b.token)) is by))
+      case false f =
+          no_newer o t k (number_at lasts o t) (h o t)
+          (λ n. other_key o t k b n e (λ g m.
+          let yes = that_key b.opens (text_in bytes tokens b.token) o t g m in
+          absurd (cc (f, yes))))
 
   pub no_news : (o : ℕ) (t : List ℕ) (r : Option ℕ) → r ≡ None → Last o t 0 r
   no_news o t r is = record { there = λ k e. absurd (cc (e, is)); last = λ k j e l n. absurd (omega (arith, l)); none = λ j e l n. absurd (omega (arith, l)) }

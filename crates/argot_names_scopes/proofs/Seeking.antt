@@ -1,5 +1,5 @@
 -- The declaration of one block that a name means, sought from the last new name of the block back.
-use Rattle.std.proofs.Common.{◌≡◌, ℕ, ◌+◌, ◌<◌, ◌≤◌, List, length, Bool, Option, Some, None, inl, inr, refl, sym, ◌∙◌, subst, arith}
+use Rattle.std.proofs.Common.{◌≡◌, ℕ, ◌+◌, ◌<◌, ◌≤◌, List, length, Bool, Option, Some, None, ◌⊎◌, inl, inr, refl, sym, ◌∙◌, subst, arith}
 use Rattle.std.specs.Prelude.{slice_get}
 use Rattle.std.proofs.lemmas.Bool.{cases_lt}
 use Rattle.std.proofs.lemmas.Option.{slice_get_within}
@@ -7,8 +7,9 @@ use Rattle.argot_tree.specs.declared.token.Token.{Token}
 use Rattle.argot_names_blocks.specs.declared.binding.Binding.{Binding}
 use Rattle.argot_files.proofs.Listed.{some_is}
 use Rattle.argot_names_scopes.specs.declared.file.FileNames.{FileNames}
+use Rattle.argot_names_scopes.specs.Texts.{text_in}
 use Rattle.argot_names_scopes.specs.Considering.{IsConsidered}
-use Rattle.argot_names_scopes.specs.Tables.{IsLastNew, AreBefores}
+use Rattle.argot_names_scopes.specs.Tables.{CoversAt, IsLastNew, AreBefores}
 use Rattle.argot_names_scopes.specs.Meant.{IsInScope, IsScoped, IsAhead, IsBestFrom, IsBetter}
 
 -- one more than a number, or none
@@ -41,11 +42,13 @@ module _ (bytes : List ℕ) (tokens : List Token) (brought : List Binding) (news
         };
       }
 
-  -- no declaration in scope stands between the last one and the bound
-  is_last : (opens bound k : ℕ) (at : Option ℕ) → IsLastNew bytes tokens brought news opens name bound at → at ≡ Some k → (j : ℕ) (other : Binding) → k ≤ j → j < bound → Scoped j other → other.opens ≡ opens → j ≡ k
+  -- what stands between the last one and the bound is covered by it
+  is_last : (opens bound k : ℕ) (at : Option ℕ) → IsLastNew bytes tokens brought news opens name bound at → at ≡ Some k → (j : ℕ) (other : Binding) → k ≤ j → j < bound → Scoped j other → other.opens ≡ opens → (j ≡ k) ⊎ CoversAt brought k j
   is_last opens bound k at last e j other low high s same =
-      let top = last.last k j e high (record { item = other; named = record { there = s.there; block = same; spells = s.is.spells }; new = s.new }) in
-      omega (arith, low, top)
+      elim (last.last k j e high (record { item = other; named = record { there = s.there; block = same; spells = s.is.spells }; new = s.new })) [
+        | inl top ↦ inl (omega (arith, low, top))
+        | inr by ↦ inr by
+      ]
 
   -- item k isn't in scope
   pub seek_past : (opens bound k : ℕ) (at : Option ℕ) (b : Binding) (r : Option Binding) → IsLastNew bytes tokens brought news opens name bound at → at ≡ Some k → From opens bound r → slice_get brought k ≡ Some b → (IsInScope bytes tokens token name b → ⊥) → From opens k r
@@ -62,8 +65,17 @@ module _ (bytes : List ℕ) (tokens : List Token) (brought : List Binding) (news
         ];
       }
     where
-      never : (j : ℕ) (other : Binding) → j ≡ k → Scoped j other → ⊥
-      never j other same s = not (subst (IsInScope bytes tokens token name) (some_is other b (sym s.there ∙ subst (λ x. slice_get brought x ≡ Some b) (sym same) there)) s.is)
+      -- item k has the name
+      spells : text_in bytes tokens b.token ≡ name
+      spells =
+          let n = last.there k e in
+          subst (λ (x : Binding). text_in bytes tokens x.token ≡ name) (some_is n.1.item b (sym n.1.named.there ∙ there)) n.1.named.spells
+
+      never : (j : ℕ) (other : Binding) → (j ≡ k) ⊎ CoversAt brought k j → Scoped j other → ⊥
+      never j other (inr by) s =
+          let over = by b other there s.there in
+          not (record { named = λ blank. s.is.named (s.is.spells ∙ (sym spells ∙ blank)); spells = spells; from = omega (arith, over.from, s.is.from); to = omega (arith, over.closes, s.is.to) })
+      never j other (inl same) s = not (subst (IsInScope bytes tokens token name) (some_is other b (sym s.there ∙ subst (λ x. slice_get brought x ≡ Some b) (sym same) there)) s.is)
 
   through : (a c other : Binding) → IsAhead a c → IsAhead c other → IsAhead a other
   through a c other (inl p) (inl q) = inl (omega arith)
@@ -80,10 +92,7 @@ module _ (bytes : List ℕ) (tokens : List Token) (brought : List Binding) (news
           | inr new ↦ (k, subst (Scoped k) (some_is b a (sym new ∙ f)) own.0, subst (λ (x : Binding). x.opens ≡ opens) (some_is b a (sym new ∙ f)) own.1)
         ];
         best = λ a other j f l s same. elim (cases_lt j bound) [
-          | inl less ↦
-              let number = is_last opens bound k at last e j other l less s same in
-              let one : b ≡ other = some_is b other (sym there ∙ subst (λ x. slice_get brought x ≡ Some other) number s.there) in
-              subst (IsAhead a) one (by.not_behind a f)
+          | inl less ↦ ahead a other j f (is_last opens bound k at last e j other l less s same) s same
           | inr more ↦ older r refl a other j f more s same
         ];
         none = λ other j f l s same. by.some f;
@@ -94,6 +103,10 @@ module _ (bytes : List ℕ) (tokens : List Token) (brought : List Binding) (news
           let n = last.there k e in
           let one : n.1.item ≡ b = some_is n.1.item b (sym n.1.named.there ∙ there) in
           (record { there = there; new = n.1.new; is = is }, subst (λ (x : Binding). x.opens ≡ opens) one n.1.named.block)
+
+      ahead : (a other : Binding) (j : ℕ) → result ≡ Some a → (j ≡ k) ⊎ CoversAt brought k j → Scoped j other → other.opens ≡ opens → IsAhead a other
+      ahead a other j f (inl number) s same = subst (IsAhead a) (some_is b other (sym there ∙ subst (λ x. slice_get brought x ≡ Some other) number s.there)) (by.not_behind a f)
+      ahead a other j f (inr over) s same = through a b other (by.not_behind a f) (inr (own.1 ∙ sym same, (over b other there s.there).node))
 
       older : (q : Option Binding) → r ≡ q → (a other : Binding) (j : ℕ) → result ≡ Some a → bound ≤ j → Scoped j other → other.opens ≡ opens → IsAhead a other
       older None e a other j f l s same = absurd (h.none other j e l s same)

@@ -1,5 +1,5 @@
 -- Tables of the names that come into blocks, by block and text.
-use Rattle.std.specs.Prelude.{◌≡◌, ℕ, ◌<◌, ◌≤◌, nat_eq, ◌&&◌, true, Bool, length, List, Option, Some, None, slice_get}
+use Rattle.std.specs.Prelude.{◌≡◌, ℕ, ◌<◌, ◌≤◌, ◌⊎◌, nat_eq, ◌&&◌, true, Bool, length, List, Option, Some, None, slice_get}
 use Rattle.std.specs.Cmp.Lexicographic.{pointwise}
 use Rattle.std.specs.declared.hash.FoldHasher.{FoldHasher}
 use Rattle.std.specs.declared.hash.BuildHasherDefault.{BuildHasherDefault}
@@ -42,13 +42,23 @@ pub record IsNewNamed (bytes : List ℕ) (tokens : List Token) (brought : List B
   pub named : IsNamed bytes tokens brought opens text k item
   pub new : slice_get news k ≡ Some true
 
--- the last of them before a number
+-- the one is in scope wherever the other of its block is, and comes first of the two
+pub record Covers (a b : Binding) : Type 0 where
+  pub from : a.from ≤ b.from
+  pub closes : b.closes ≤ a.closes
+  pub node : a.node ≤ b.node
+
+-- the same for the items of two numbers
+abbrev pub CoversAt : List Binding → ℕ → ℕ → Type 0
+CoversAt brought k j = (a b : Binding) → slice_get brought k ≡ Some a → slice_get brought j ≡ Some b → Covers a b
+
+-- of them before a number the last one that is kept: those behind it are covered by it
 pub record IsLastNew (bytes : List ℕ) (tokens : List Token) (brought : List Binding) (news : List Bool) (opens : ℕ) (text : List ℕ) (count : ℕ) (result : Option ℕ) : Type 0 where
   pub there : (k : ℕ) → result ≡ Some k → (k < count) × IsNewNamed bytes tokens brought news opens text k
-  pub last : (k j : ℕ) → result ≡ Some k → j < count → IsNewNamed bytes tokens brought news opens text j → j ≤ k
+  pub last : (k j : ℕ) → result ≡ Some k → j < count → IsNewNamed bytes tokens brought news opens text j → (j ≤ k) ⊎ CoversAt brought k j
   pub none : (j : ℕ) → result ≡ None → j < count → IsNewNamed bytes tokens brought news opens text j → ⊥
 
--- for each item the last new name before it in its block with its text
+-- for each item the last new name before it that is kept in its block with its text
 abbrev pub AreBefores : List ℕ → List Token → List Binding → List Bool → List (Option ℕ) → Type 0
 AreBefores bytes tokens brought news befores = (k : ℕ) (b : Binding) (before : Option ℕ) → slice_get brought k ≡ Some b → slice_get befores k ≡ Some before → IsLastNew bytes tokens brought news b.opens (text_in bytes tokens b.token) k before
 

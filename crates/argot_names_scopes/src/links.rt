@@ -1,6 +1,8 @@
-// The new names of each text in each block, the last one first, as a table and links.
-ghost use Rattle.std.specs.Prelude.{◌≡◌, ◌+◌, ◌<◌, Some, length, slice_get, OnOk, IfOk};
-ghost use Rattle.argot_names_scopes.specs.Tables.{number_at, AreLinksUpTo, AreLinks};
+// The new names of each text in each block, the last one first, as a table and links. A name that is in scope only where an
+// earlier one of them is has no place among them: however often a block has a name, there is little to look at.
+ghost use Rattle.std.specs.Prelude.{◌≡◌, ◌↔◌, ◌+◌, ◌<◌, ℕ, IsTrue, Some, true, length, slice_get, OnOk, IfOk};
+ghost use Rattle.argot_names_blocks.specs.declared.binding.Binding.{Binding};
+ghost use Rattle.argot_names_scopes.specs.Tables.{number_at, Covers, AreLinksUpTo, AreLinks};
 
 use crate::firsts::item_at;
 use crate::texts::spelled_at;
@@ -10,8 +12,8 @@ use argot_tree::Token;
 use indexmap::IndexMap;
 use std::alloc::Global;
 
-/// For each block, by its first token, and each text the number of the last new name, and for each name the number of the
-/// last new one before it in its block with its text.
+/// For each block, by its first token, and each text the number of the last new name that is kept, and for each name the
+/// number of the last one before it that is kept in its block with its text.
 #[derive(Drop)]
 pub struct Links<'a> {
     pub lasts: IndexMap<(u32, &'a [u8]), usize>,
@@ -33,7 +35,27 @@ pub fn new_at(news: &[bool], k: usize) -> bool
     news[k]
 }
 
-/// Puts item k down.
+/// Whether the one is in scope wherever the other of its block is, and comes first of the two.
+fn covers(a: Binding, b: Binding) -> bool
+    ensures { IsTrue result ↔ Covers a b }
+{
+    a.from <= b.from && b.closes <= a.closes && a.node <= b.node
+}
+
+/// Whether the item of that number covers this one.
+fn is_covered(brought: &[Binding], last: Option<usize>, b: Binding) -> bool
+    ensures { result ≡ true → (k : ℕ) × (a : Binding) × (last ≡ Some k) × (slice_get brought.now k ≡ Some a) × Covers a b }
+{
+    match last {
+        Some(k) => match brought.get(k) {
+            Some(a) => covers(*a, b),
+            None => false,
+        },
+        None => false,
+    }
+}
+
+/// Puts item k down, where the last one of its block and text doesn't cover it.
 fn link<'a>(
     bytes: &'a [u8],
     tokens: &[Token],
@@ -50,7 +72,11 @@ fn link<'a>(
 {
     let b = item_at(brought, k);
     let text = spelled_at(bytes, tokens, b.token);
-    befores.push(number_at(lasts, b.opens, text))?;
+    let last = number_at(lasts, b.opens, text);
+    befores.push(last)?;
+    if is_covered(brought, last, b) {
+        return Ok(());
+    }
     if new_at(news, k) {
         lasts.insert((b.opens, text), k)?;
     }
