@@ -1,18 +1,20 @@
 -- What the relation says of the programs that aren't the first one: that they are well formed, and flows and edges that it has
 -- or hasn't.
-use Rattle.std.proofs.Common.{◌≡◌, ℕ, true, false, [], ◌∷◌, refl}
+use Rattle.std.proofs.Common.{◌≡◌, ℕ, true, false, [], ◌∷◌, refl, inl}
 use Rattle.std.specs.Prelude.{nat_le}
-use Rattle.argot_plain.specs.Code.{Code, IsAt, IsFunction, by_call, by_defer, by_kind, successor}
+use Rattle.argot_plain.specs.Code.{Code, IsAt, IsFunction, by_call, by_defer, by_kind, successor, IsIn}
+use Rattle.argot_text.specs.declared.path.PathStep.TheVariants.{Field}
 use Rattle.argot_plain.specs.Nodes.{mark, of_kind, of_entry}
 use Rattle.argot_plain.specs.declared.functions.Function.{Function}
 use Rattle.argot_plain.specs.declared.instructions.Callee.TheVariants.{Static}
-use Rattle.argot_plain.specs.declared.instructions.Kind.TheVariants.{Call, Defer, Write}
+use Rattle.argot_plain.specs.declared.instructions.Kind.TheVariants.{Call, Defer, Go, Move, New, Read, Step, Write}
 use Rattle.argot_plain_parts.proofs.Whole.{passing_is_well}
-use Rattle.argot_facts.specs.Edges.{plain, call, a_defer}
-use Rattle.argot_facts.specs.Reaching.{next}
-use Rattle.argot_facts.specs.Refers.{Holds, IsLive, entry_is_live, target_is_live, target_static}
+use Rattle.argot_facts.specs.Edges.{plain, call, a_defer, by_object, by_write, by_read}
+use Rattle.argot_facts.specs.Escapes.{Escapes, by_go}
+use Rattle.argot_facts.specs.Reaching.{DefinedAt, Reaches, next, on}
+use Rattle.argot_facts.specs.Refers.{Holds, IsLive, IsLivePlace, NodeRefers, loc, entry_is_live, target_is_live, target_static, new, copy, step}
 use Rattle.argot_sound.proofs.Conclusion.{leak_flows}
-use Rattle.argot_plain_worked_rules.proofs.EdgesHeld.{live_place, marked, stands_in}
+use Rattle.argot_plain_worked_rules.proofs.EdgesHeld.{live_place, marked, not_defined, stands_in}
 use Rattle.argot_plain_worked_rules.proofs.Joining.{no_flow}
 use Rattle.argot_plain_worked_rules.proofs.Leading.{no_edge}
 use Rattle.argot_plain_worked_rules.proofs.Small.{below}
@@ -99,3 +101,81 @@ read_first_edge =
       moves = plain 6 (Write 5 6) (live_place p 39 6 writes (called_is_live p 6 ReadFirst.function_0 refl refl refl refl)) refl (refl, refl, refl)
           (record { defines = by_kind (Call (6 ∷ []) (Static 1) []) refl refl; reaches = next (successor (Call (6 ∷ []) (Static 1) []) refl refl) });
     }
+
+pub read_first_back : ReadFirst.ItIsNotReadBack
+read_first_back = no_edge ReadFirst.read_first ReadFirst.asked 39 0 35 0 refl
+
+pub shared_first_is_well : ReadFirst.ItIsWellShared
+shared_first_is_well = passing_is_well ReadFirst.shared_first refl
+
+-- a box that a goroutine is handed: the reference goes from its site to the goroutine, to the write and to the read
+abbrev p : Code
+p = ReadFirst.shared_first
+
+in_main : (i : ℕ) → nat_le 29 i ≡ true → nat_le i 42 ≡ true → IsIn p i 6
+in_main i low high = stands_in p i 6 ReadFirst.main_sharing refl low high
+
+live : Holds p (IsLive 6)
+live = called_is_live p 6 ReadFirst.function_0 refl refl refl refl
+
+live_at : (i : ℕ) → nat_le 29 i ≡ true → nat_le i 42 ≡ true → IsLivePlace p i
+live_at i low high = live_place p i 6 (in_main i low high) live
+
+-- the box in register 2, made at 31
+made : Holds p (NodeRefers (mark 31 0 []) (loc 0 []))
+made = new 2 6 (in_main 31 refl refl) live refl
+
+made_33 : DefinedAt p 31 0 2 33
+made_33 = record {
+  defines = by_kind (New 2 0) refl refl;
+  reaches = on (next (successor (New 2 0) refl refl)) (not_defined p 32 2 (Write 2 1) refl refl refl) (successor (Write 2 1) refl refl);
+}
+
+-- in register 0, put there at 33
+moved : Holds p (NodeRefers (mark 33 0 []) (loc 0 []))
+moved = copy 6 31 0 2 [] (Move 0 2 []) (in_main 33 refl refl) live refl (refl, refl, refl) made_33 made
+
+moved_34 : Reaches p 33 0 34
+moved_34 = next (successor (Move 0 2 []) refl refl)
+
+moved_35 : Reaches p 33 0 35
+moved_35 = on moved_34 (not_defined p 34 0 (Go (Static 5) (0 ∷ [])) refl refl refl) (successor (Go (Static 5) (0 ∷ [])) refl refl)
+
+moved_38 : Reaches p 33 0 38
+moved_38 =
+    on (on (on moved_35 (not_defined p 35 0 (Step 3 0 (Field 0 ∷ [])) refl refl refl) (successor (Step 3 0 (Field 0 ∷ [])) refl refl))
+    (not_defined p 36 0 (Read 4 3 ([] ∷ [])) refl refl refl) (successor (Read 4 3 ([] ∷ [])) refl refl))
+    (not_defined p 37 0 (Call [] (Static 2) (4 ∷ [])) refl refl refl) (successor (Call [] (Static 2) (4 ∷ [])) refl refl)
+
+moved_at : (i : ℕ) → Reaches p 33 0 i → DefinedAt p 33 0 0 i
+moved_at i r = record { defines = by_kind (Move 0 2 []) refl refl; reaches = r }
+
+shared : Escapes p 0
+shared = by_go 34 0 [] [] (Static 5) (0 ∷ []) (live_at 34 refl refl) refl
+    (copy 6 33 0 0 [] (Go (Static 5) (0 ∷ [])) (in_main 34 refl refl) live refl (refl, refl) (moved_at 34 moved_34) moved)
+
+read_from : Holds p (NodeRefers (mark 35 0 []) (loc 0 (Field 0 ∷ [])))
+read_from = step 6 33 0 3 0 (in_main 35 refl refl) live refl (moved_at 35 moved_35) moved refl
+
+written_to : Holds p (NodeRefers (mark 38 0 []) (loc 0 (Field 0 ∷ [])))
+written_to = step 6 33 0 5 0 (in_main 38 refl refl) live refl (moved_at 38 moved_38) moved refl
+
+read_36 : DefinedAt p 35 0 3 36
+read_36 = record { defines = by_kind (Step 3 0 (Field 0 ∷ [])) refl refl; reaches = next (successor (Step 3 0 (Field 0 ∷ [])) refl refl) }
+
+written_40 : DefinedAt p 38 0 5 40
+written_40 = record {
+  defines = by_kind (Step 5 0 (Field 0 ∷ [])) refl refl;
+  reaches = on (next (successor (Step 5 0 (Field 0 ∷ [])) refl refl)) (not_defined p 39 5 (Call (6 ∷ []) (Static 1) []) refl refl refl) (successor (Call (6 ∷ []) (Static 1) []) refl refl);
+}
+
+pub shared_first_edge : ReadFirst.ItMayBeReadBack
+shared_first_edge = record {
+  from = mark 40 0 [];
+  to = mark 36 0 [];
+  is_from = marked p 40 0 [] (of_kind 6 6 (Write 5 6) (in_main 40 refl refl) refl refl refl);
+  is_to = marked p 36 0 [] (of_kind 6 4 (Read 4 3 ([] ∷ [])) (in_main 36 refl refl) refl refl refl);
+  moves = by_object 0 (Field 0 ∷ []) (by_write 38 0 5 6 (live_at 40 refl refl) refl written_40 written_to refl)
+      (by_read 35 0 4 3 ([] ∷ []) (live_at 36 refl refl) refl read_36 read_from refl)
+      (inl shared);
+}

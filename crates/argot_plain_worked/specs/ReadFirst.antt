@@ -12,7 +12,7 @@
 --   11     sink(b.v)
 --   12     b.v = source()
 --   13 }
-use Rattle.std.specs.Prelude.{◌≡◌, ℕ, true, false, [], ◌∷◌, Some, None, codes}
+use Rattle.std.specs.Prelude.{◌≡◌, ℕ, true, false, [], ◌∷◌, Some, None, codes, ◌++◌, take, drop}
 use Rattle.argot_plain.specs.Code.{Code}
 use Rattle.argot_plain.specs.Leak.{labelled}
 use Rattle.argot_plain.specs.Machine.{State}
@@ -22,13 +22,13 @@ use Rattle.argot_plain.specs.declared.functions.Role.TheVariants.{Own}
 use Rattle.argot_plain.specs.declared.instructions.Callee.TheVariants.{Static}
 use Rattle.argot_plain.specs.declared.instructions.Instr.{Instr}
 use Rattle.argot_plain.specs.declared.instructions.Kind.{Kind}
-use Rattle.argot_plain.specs.declared.instructions.Kind.TheVariants.{Branch, Call, Goto, Join, Leave, Move, New, Op, Read, RunDefers, Step, Write}
+use Rattle.argot_plain.specs.declared.instructions.Kind.TheVariants.{Branch, Call, Go, Goto, Join, Leave, Move, New, Op, Read, RunDefers, Step, Write}
 use Rattle.argot_plain.specs.declared.problems.Problem.{Problem}
 use Rattle.argot_text.specs.declared.position.Pos.{Pos}
 use Rattle.argot_text.specs.declared.path.PathStep.TheVariants.{Field}
 use Rattle.argot_plain.specs.WellFormed.{WellFormed}
-use Rattle.argot_plain_worked_rules.specs.Worked.{HasEdge, HasNoFlow}
-use Rattle.argot_facts.specs.declared.graphs.EdgeKind.TheVariants.{Plain}
+use Rattle.argot_plain_worked_rules.specs.Worked.{HasEdge, HasNoEdge, HasNoFlow}
+use Rattle.argot_facts.specs.declared.graphs.EdgeKind.TheVariants.{Plain, Reset}
 
 abbrev at : ℕ → ℕ → Pos
 at line col = record { file = 0; line = line; col = col }
@@ -98,3 +98,24 @@ ItIsWritten = HasEdge read_first asked 38 0 Plain 39 0
 -- and not to the sink, which read the box before: no other goroutine has the box, and nothing leads back
 abbrev pub ItComesTooLate : Type 0
 ItComesTooLate = HasNoFlow read_first asked 38 36 0
+
+-- no edge leads from what line 12 writes to the read of line 11
+abbrev pub ItIsNotReadBack : Type 0
+ItIsNotReadBack = HasNoEdge read_first asked 39 0 35 0
+
+-- The same program with `go touch(b)` in front of line 11: the places from there on are one later.
+abbrev pub main_sharing : Function
+main_sharing = record function_6 { exit = 41; leave = 42 }
+
+abbrev pub shared_first : Code
+shared_first = record read_first {
+  functions = function_0 ∷ function_1 ∷ function_2 ∷ function_3 ∷ function_4 ∷ function_5 ∷ main_sharing ∷ [];
+  instrs = take 34 read_first.instrs ++ instr 11 2 (Go (Static 5) (0 ∷ [])) ∷ drop 34 read_first.instrs;
+}
+
+abbrev pub ItIsWellShared : Type 0
+ItIsWellShared = WellFormed shared_first
+
+-- now the box is shared, and an edge leads from the write, at the place 40, to the read, at the place 36
+abbrev pub ItMayBeReadBack : Type 0
+ItMayBeReadBack = HasEdge shared_first asked 40 0 Reset 36 0

@@ -8,7 +8,7 @@ ghost use Rattle.argot_plain_worked.specs.FilledBox.{ItLeaks as FilledBoxLeaks, 
 ghost use Rattle.argot_plain_worked.specs.DeferredCall.{ItEnds as DeferredCallEnds, ItIsWellFormed as DeferredCallIsWellFormed, ItIsHanded as DeferredCallIsHanded, ItComesTooLate as DeferredCallComesTooLate};
 ghost use Rattle.argot_plain_worked.specs.CalledMethod.{ItEnds as CalledMethodEnds, ItLeaks as CalledMethodLeaks, BothAreWellFormed as CalledMethodsAreWellFormed, ItFlows as CalledMethodFlows, ItIsAnotherMethod as CalledMethodIsAnother};
 ghost use Rattle.argot_plain_worked.specs.DeferredLiteral.{ItLeaks as DeferredLiteralLeaks, ItIsWellFormed as DeferredLiteralIsWellFormed, ItFlows as DeferredLiteralFlows, ItIsTheVariable as DeferredLiteralIsTheVariable};
-ghost use Rattle.argot_plain_worked.specs.ReadFirst.{ItEnds as ReadFirstEnds, ItIsWellFormed as ReadFirstIsWellFormed, ItIsWritten as ReadFirstIsWritten, ItComesTooLate as ReadFirstComesTooLate};
+ghost use Rattle.argot_plain_worked.specs.ReadFirst.{ItEnds as ReadFirstEnds, ItIsWellFormed as ReadFirstIsWellFormed, ItIsWritten as ReadFirstIsWritten, ItComesTooLate as ReadFirstComesTooLate, ItIsNotReadBack as ReadFirstIsNotReadBack, ItIsWellShared as ReadFirstIsWellShared, ItMayBeReadBack as ReadFirstMayBeReadBack};
 
 /// The first program has a run that leaks: the call of its source reaches argument 0 of its sink.
 pub fn first_flow_leaks()
@@ -68,10 +68,14 @@ pub fn deferred_literal()
     ensures none { DeferredLiteralIsTheVariable }
 {}
 
-/// A box is read before secret data is written to it; the program ends, and there is no flow.
+/// A box is read before secret data is written to it; the program ends, and there is no flow. Where a goroutine is handed the
+/// box, what is written may come to the read.
 pub fn read_first()
     ensures well_formed { ReadFirstIsWellFormed }
     ensures ends { ReadFirstEnds }
     ensures edge { ReadFirstIsWritten }
     ensures no_flow { ReadFirstComesTooLate }
+    ensures none { ReadFirstIsNotReadBack }
+    ensures well_shared { ReadFirstIsWellShared }
+    ensures shared { ReadFirstMayBeReadBack }
 {}

@@ -76,7 +76,7 @@ got_member r (suc k) (x ∷ rs) h none = got_member r k rs h (behind (r == x) (m
     behind false b h = h
 
 -- a place that is no entry and gives other registers doesn't define the register
-not_defined : (p : Code) (i r : ℕ) (kind : Kind) → IsAt p i kind → member r (defined kind) ≡ false → is_entry i p.functions ≡ false → (k : ℕ) → Defines p i k r → ⊥
+pub not_defined : (p : Code) (i r : ℕ) (kind : Kind) → IsAt p i kind → member r (defined kind) ≡ false → is_entry i p.functions ≡ false → (k : ℕ) → Defines p i k r → ⊥
 not_defined p i r kind at other inner k (by_kind x is got) =
     let e : x ≡ kind = (let z = sym is ∙ at in cc) in
     got_member r k (defined kind) (subst (λ (y : Kind). slice_get (defined y) k ≡ Some r) e got) other
