@@ -9,6 +9,7 @@ use Rattle.argot_facts.specs.Reached.{IsEdgeIn}
 use Rattle.argot_facts.specs.declared.findings.Flow.{Flow}
 use Rattle.argot_facts.specs.declared.graphs.Edge.{Edge}
 use Rattle.argot_facts.specs.declared.nodes.Node.{Node}
+use Rattle.argot_flow_ends.specs.declared.links.Links.{Links}
 use Rattle.argot_flow_ends.specs.declared.lists.End.{End}
 
 -- the flow of two nodes
@@ -35,6 +36,16 @@ IsLinkOfSome edges ns problem sources ends f = (s : ℕ) × In s sources × IsLi
 -- new has the flows of old and those with the property, and no others
 abbrev pub AddsFlows : (Flow → Type 0) → List Flow → List Flow → Type 0
 AddsFlows A old new = (f : Flow) → (In f new → In f old ⊎ A f) × (In f old ⊎ A f → In f new)
+
+-- the flow of that source and end is added, where there is one; those of that source; and those of these sources
+abbrev pub AddsLink : Links → ℕ → End → List Flow → List Flow → Type 0
+AddsLink y s e = AddsFlows (IsLink y.graph.now.edges y.graph.now.nodes y.problem s e)
+
+abbrev pub AddsLinks : Links → ℕ → List Flow → List Flow → Type 0
+AddsLinks y s = AddsFlows (IsLinkToSome y.graph.now.edges y.graph.now.nodes y.problem s y.ends.now)
+
+abbrev pub AddsAllLinks : Links → List ℕ → List Flow → List Flow → Type 0
+AddsAllLinks y sources = AddsFlows (IsLinkOfSome y.graph.now.edges y.graph.now.nodes y.problem sources y.ends.now)
 
 -- exactly the flows of the problem, in any order
 abbrev pub AreLinks : Code → Problem → List Flow → Type 0

@@ -1,7 +1,7 @@
 // Flows from sources to ends that are reached.
 ghost use Rattle.std.specs.Prelude.{◌≡◌, ◌<◌, ℕ, OnOk, Some, length};
 ghost use Rattle.argot_plain.specs.Lists.{In};
-ghost use Rattle.argot_flow_ends.specs.Linking.{AddsFlows, IsLink, IsLinkToSome, IsLinkOfSome};
+ghost use Rattle.argot_flow_ends.specs.Linking.{AddsLink, AddsLinks, AddsAllLinks};
 ghost use Rattle.argot_flow_ends.specs.declared.lists.End.{End as EndValue};
 
 use crate::lists::End;
@@ -30,7 +30,7 @@ fn add(
     requires start { reach.now.start ≡ Some source }
     requires source { source < length links.now.graph.now.nodes }
     requires end { end.node < length links.now.graph.now.nodes }
-    ensures { OnOk result (AddsFlows (IsLink links.now.graph.now.edges links.now.graph.now.nodes links.now.problem source end) flows.old.items flows.new.items) }
+    ensures { OnOk result (AddsLink links.now source end flows.old.items flows.new.items) }
 {
     let Some(_rank) = reach.rank(end.node) else {
         return Ok(());
@@ -57,7 +57,7 @@ fn add_from(
     requires start { reach.now.start ≡ Some source }
     requires source { source < length links.now.graph.now.nodes }
     requires ends { (e : EndValue) → In e links.now.ends.now → e.node < length links.now.graph.now.nodes }
-    ensures { OnOk result (AddsFlows (IsLinkToSome links.now.graph.now.edges links.now.graph.now.nodes links.now.problem source links.now.ends.now) flows.old.items flows.new.items) }
+    ensures { OnOk result (AddsLinks links.now source flows.old.items flows.new.items) }
 {
     for k in 0..links.ends.len() {
         add(links, reach, source, links.ends[k], flows)?;
@@ -76,7 +76,7 @@ pub(crate) fn add_all(
     requires nodes { reach.old.nodes ≡ length links.now.graph.now.nodes }
     requires sources { (s : ℕ) → In s sources.now → s < length links.now.graph.now.nodes }
     requires ends { (e : EndValue) → In e links.now.ends.now → e.node < length links.now.graph.now.nodes }
-    ensures { OnOk result (AddsFlows (IsLinkOfSome links.now.graph.now.edges links.now.graph.now.nodes links.now.problem sources.now links.now.ends.now) flows.old.items flows.new.items) }
+    ensures { OnOk result (AddsAllLinks links.now sources.now flows.old.items flows.new.items) }
 {
     for k in 0..sources.len() {
         reach.run(sources[k]);
