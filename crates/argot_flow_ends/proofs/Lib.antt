@@ -1,10 +1,4 @@
-pub mod Setting
-pub mod Wrapping
-pub mod Pushed
-pub mod Membership
-pub mod Counting
 pub mod Handing
-pub mod Naming
 pub mod Playing
 pub mod Nodes
 pub mod Listing

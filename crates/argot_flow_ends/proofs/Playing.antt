@@ -7,7 +7,7 @@ use Rattle.argot_facts.specs.Exact.{ArePoints}
 use Rattle.argot_facts.specs.Marked.{IsSet}
 use Rattle.argot_facts.specs.Pointing.{Pointing}
 use Rattle.argot_facts.proofs.Listed.{get_at}
-use Rattle.argot_flow_ends.specs.Counting.{AreLeftOut, AreCounted}
+use Rattle.argot_roles.specs.Counting.{AreLeftOut, AreCounted}
 use Rattle.argot_flow_ends.specs.Roles.{HasFlagged, HasRole}
 
 both : (a b : Bool) → a ≡ false → b ≡ true → (not a && b) ≡ true

@@ -1,5 +1,3 @@
-pub mod Marking
-pub mod Counting
 pub mod Roles
 pub mod Ends
 pub mod Linking

@@ -7,8 +7,8 @@ use Rattle.argot_plain.specs.declared.problems.Problem.{Problem}
 use Rattle.argot_facts.specs.Marked.{IsSet}
 use Rattle.argot_facts.specs.Pointing.{Pointing}
 use Rattle.argot_facts.specs.Refers.{Holds, Targets}
-use Rattle.argot_flow_ends.specs.Counting.{AreLeftOut, AreCounted}
-use Rattle.argot_flow_ends.specs.Marking.{AreMarked}
+use Rattle.argot_roles.specs.Counting.{AreLeftOut, AreCounted}
+use Rattle.argot_roles.specs.Marking.{AreMarked}
 use Rattle.argot_flow_ends.specs.declared.roles.Roles.{Roles}
 
 pub record AreRoles (p : Code) (pr : Problem) (roles : Roles) : Type 0 where

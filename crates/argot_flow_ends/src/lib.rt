@@ -9,15 +9,12 @@
 #![tactic(auto)]
 
 mod arguments;
-mod counted;
 mod ends;
 mod finding;
 mod links;
 mod lists;
-mod marking;
 mod order;
 mod roles;
-mod wrapped;
 
 pub use finding::flows;
 

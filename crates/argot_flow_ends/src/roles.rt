@@ -4,14 +4,12 @@ ghost use Rattle.argot_plain.specs.Counts.{counts};
 ghost use Rattle.argot_plain.specs.Fitting.{Fits};
 ghost use Rattle.argot_plain.specs.Lists.{In};
 ghost use Rattle.argot_facts.specs.Marked.{IsSet};
-ghost use Rattle.argot_flow_ends.specs.Counting.{AreCounted, AreLeftOut};
+ghost use Rattle.argot_roles.specs.Counting.{AreCounted, AreLeftOut};
 ghost use Rattle.argot_flow_ends.specs.Roles.{AreRoles, HasFlagged};
 
-use crate::counted::counted;
-use crate::marking::named;
-use crate::wrapped::left_out;
 use argot_facts::{Points, is_marked};
 use argot_plain::{Problem, Program};
+use argot_roles::{counted, left_out, named};
 use argot_text::Memory;
 use std::alloc::Global;
 

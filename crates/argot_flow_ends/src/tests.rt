@@ -1,7 +1,7 @@
 // Which handed values of a call are arguments, and which functions stand in a list.
 use crate::arguments::{argument_at, is_result};
-use crate::marking::listed;
 use argot_plain::{Callee, Kind};
+use argot_roles::listed;
 use argot_text::Sequence;
 use std::test::Fail;
 

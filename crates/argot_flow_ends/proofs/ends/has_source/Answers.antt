@@ -1,5 +1,5 @@
 use Rattle.std.proofs.Common.{sym, subst}
-use Rattle.argot_flow_ends.specs.Counting.{AreLeftOut, AreCounted}
+use Rattle.argot_roles.specs.Counting.{AreLeftOut, AreCounted}
 use Rattle.argot_flow_ends.proofs.Playing.{role_free, role_flagged}
 use Rattle.argot_flow_ends.proofs.ends.has_source.Goals as goal
 

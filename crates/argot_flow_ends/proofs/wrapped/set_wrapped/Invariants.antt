@@ -1,7 +1,0 @@
-use Rattle.std.proofs.Common.{◌<◌}
-use Rattle.argot_flow_ends.specs.Counting.{IsWrapped}
-use Rattle.argot_flow_ends.specs.Marking.{Marks}
-use Rattle.argot_flow_ends.proofs.wrapped.set_wrapped.Given as goal
-
-abbrev pub invariant-loop-h : goal.invariant-loop-h
-invariant-loop-h l = Marks (λ m. (w : IsWrapped l.program m) × (w.0 < l.h)) l.initial.flags.items l.flags.items
