@@ -5,7 +5,8 @@ use Rattle.argot_plain.specs.Lists.{In, here, there}
 use Rattle.argot_facts.specs.Marked.{IsSet}
 use Rattle.argot_facts.specs.declared.pointing.Loc.{Loc}
 use Rattle.argot_facts.proofs.Listed.{In-append, In-left, In-right}
-use Rattle.argot_escape.specs.Flooding.{unset, Finds, IsReady}
+use Rattle.argot_facts.specs.Pointing.{Pointing}
+use Rattle.argot_escape.specs.Flooding.{unset, Finds, FoundBy, at_start, led_to, IsReady, LeadsTo}
 use Rattle.argot_escape.specs.declared.found.Found.{Found}
 
 -- nothing is found where all is found already
@@ -102,3 +103,13 @@ unset_lt (true ∷ old) (true ∷ new) (suc n) l kept s none = let h = unset_lt 
 unset_lt (true ∷ old) (false ∷ new) (suc n) l kept s none = let e = head_set true false old new kept refl in absurd cc
 unset_lt (false ∷ old) (true ∷ new) (suc n) l kept s none = let h = unset_lt old new n (omega arith) (λ m. kept (suc m)) s none in omega (arith, h)
 unset_lt (false ∷ old) (false ∷ new) (suc n) l kept s none = let h = unset_lt old new n (omega arith) (λ m. kept (suc m)) s none in omega (arith, h)
+
+-- what is found from the one is found from the other
+pub found_as : (x : Pointing) (V W : ℕ → Type 0) → ((m : ℕ) → V m → W m) → (s : ℕ) → FoundBy x V s → FoundBy x W s
+found_as x V W f s (at_start v) = at_start (f s v)
+found_as x V W f s (led_to o h l) = led_to o (found_as x V W f o h) l
+
+-- and has each property that those at the start have and that is kept
+pub all_found : (x : Pointing) (W S : ℕ → Type 0) → ((m : ℕ) → W m → S m) → ((o m : ℕ) → S o → LeadsTo x o m → S m) → (s : ℕ) → FoundBy x W s → S s
+all_found x W S f closed s (at_start w) = f s w
+all_found x W S f closed s (led_to o h l) = closed o s (all_found x W S f closed o h) l

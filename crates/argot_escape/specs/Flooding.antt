@@ -109,3 +109,11 @@ AreLed x f = (s m : ℕ) → IsSet f.flags.items s → LeadsTo x s m → IsSet f
 -- what waits is found
 abbrev pub AreSet : Found → Type 0
 AreSet f = (s : ℕ) → contains f.waiting.items s ≡ true → IsSet f.flags.items s
+
+-- the node number n has the index k and refers to a location of the site m
+abbrev pub AtLeadsTo : Pointing → ℕ → ℕ → ℕ → Type 0
+AtLeadsTo x k n m = (a : Node) × (slice_get x.nodes n ≡ Some a) × (a.index ≡ k) × RowLeadsTo x n m
+
+-- and so does one of the place i
+abbrev pub IndexLeadsTo : Pointing → ℕ → ℕ → ℕ → Type 0
+IndexLeadsTo x i k m = (n : ℕ) × (a : Node) × (slice_get x.nodes n ≡ Some a) × (a.place ≡ i) × (a.index ≡ k) × RowLeadsTo x n m

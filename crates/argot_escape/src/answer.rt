@@ -15,7 +15,7 @@ use argot_text::Memory;
 use std::alloc::Global;
 
 /// No site is found.
-fn nothing(alloc: Global, sites: u32) -> Result<Found, Memory>
+pub(crate) fn nothing(alloc: Global, sites: u32) -> Result<Found, Memory>
     ensures count { IfOk result (λ f. length f.flags.items ≡ sites) }
     ensures size { IfOk result (λ f. f.waiting.size ≡ sites) }
     ensures none { IfOk result (λ f. (m : ℕ) → IsSet f.flags.items m → ⊥) }

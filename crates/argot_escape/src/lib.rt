@@ -10,6 +10,8 @@
 mod answer;
 mod flood;
 mod found;
+mod reaching;
 mod starts;
 
 pub use answer::escapes;
+pub use reaching::reached;

@@ -10,7 +10,7 @@ use argot_facts::{Node, Nodes, Points};
 use argot_plain::{Kind, Program};
 
 /// Where the nodes of a place begin, or of the first place behind it that has some.
-fn first_of(nodes: &Nodes, place: u32) -> usize
+pub(crate) fn first_of(nodes: &Nodes, place: u32) -> usize
     ensures inside { result ≤ length nodes.now }
     ensures before { (m : ℕ) (a : NodeValue) → slice_get nodes.now m ≡ Some a → m < result → a.place < place }
     ensures behind { (m : ℕ) (a : NodeValue) → slice_get nodes.now m ≡ Some a → result ≤ m → place ≤ a.place }
@@ -47,7 +47,7 @@ fn reach_variable(program: &Program, found: &mut Found, k: usize)
 }
 
 /// Finds the sites to which a node refers.
-fn reach_node(points: &Points, found: &mut Found, n: u32)
+pub(crate) fn reach_node(points: &Points, found: &mut Found, n: u32)
     requires ready { IsReady points.now.locations found.old }
     requires inside { n < length points.now.nodes }
     ensures { Finds (RowLeadsTo points.now n) found.old found.new }

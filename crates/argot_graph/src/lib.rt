@@ -8,4 +8,5 @@
 mod order;
 mod turning;
 
+pub use order::{ordered, ordered_alone};
 pub use turning::turn;

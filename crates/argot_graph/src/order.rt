@@ -39,6 +39,19 @@ fn sort(rt: &(impl Threads + Sync), alloc: Global, edges: &mut [Edge]) -> Result
     }
 }
 
+/// Sorts edges by their keys, with one thread.
+fn sort_alone(edges: &mut Vec<Edge>) -> Result<(), Memory>
+    ensures same { HaveSame edges.new.items edges.old.items }
+    ensures ascend { OnOk result (Ascend edges.new.items) }
+{
+    edges.sort_by_key(
+        |edge: &Edge| -> (u32, u32, u32, u32)
+            ensures { result ≡ key_of edge.now }
+        { key(*edge) },
+    )?;
+    Ok(())
+}
+
 /// Whether edge k is the one before it.
 fn is_repeated(edges: &[Edge], k: usize) -> bool
     requires { k < length edges.now }
@@ -64,7 +77,7 @@ fn each_once(alloc: Global, edges: &[Edge]) -> Result<Vec<Edge>, Memory>
 }
 
 /// The edges in order, each once. An error of the sort is want of memory.
-pub(crate) fn ordered(
+pub fn ordered(
     rt: &(impl Threads + Sync),
     alloc: Global,
     edges: &mut Vec<Edge>,
@@ -75,5 +88,14 @@ pub(crate) fn ordered(
     if let Err(fault) = sort(rt, alloc, edges.as_mut_slice()) {
         return Err(fault);
     }
+    each_once(alloc, edges.as_slice())
+}
+
+/// The same, sorted by the thread that calls.
+pub fn ordered_alone(alloc: Global, edges: &mut Vec<Edge>) -> Result<Vec<Edge>, Memory>
+    ensures ordered { IfOk result (λ v. IsOrdered EdgeBefore v.items) }
+    ensures same { IfOk result (λ v. HaveSame v.items edges.old.items) }
+{
+    sort_alone(edges)?;
     each_once(alloc, edges.as_slice())
 }

@@ -8,10 +8,10 @@ ghost use Rattle.std.specs.List.Sorted.{IsNonDecreasingBy};
 ghost use Rattle.argot_points_rules.specs.Stretches.{reached};
 ghost use Rattle.argot_points_rules.specs.Column.{owned, join_copies, register_copies, item_copies, grow_rules, enter_leaves, is_value, enters, return_leaves, returns, fresh_of, fresh_from, reference, hand_rules, variable_rules, kind_rules, place_rules, function_rules, rules_of, definitions};
 
-use crate::definitions::definitions;
 use crate::nodes::{handed_values, leaves_of, own_site, small};
 use crate::parts::{push_move, push_part};
 use crate::paths::copied;
+use crate::reaching::definitions;
 use crate::rules::{Owned, Rule};
 use crate::sites::{end_of_sites, first_site};
 use crate::stretches::{are_in_order, stretch_of};

@@ -8,11 +8,11 @@
 #![tactic(auto)]
 
 mod column;
-mod definitions;
 mod locations;
 mod nodes;
 mod parts;
 mod paths;
+mod reaching;
 mod rules;
 mod sites;
 mod stretches;
@@ -22,4 +22,6 @@ pub use column::{reference, rules_of};
 pub use locations::list_locations;
 pub use nodes::{leaves_of, list_nodes};
 pub use paths::{copied, is_joined, same_path};
+pub use reaching::definitions;
 pub use rules::{Owned, PointsFault, Rule};
+pub use stretches::{are_in_order, stretch_of};

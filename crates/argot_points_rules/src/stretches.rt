@@ -5,7 +5,7 @@ ghost use Rattle.std.specs.List.Sorted.{IsNonDecreasingBy};
 ghost use Rattle.argot_points_rules.specs.Stretches.{reached, AreEnough};
 
 /// Whether each definition reaches the place of the one before it, or one behind.
-pub(crate) fn are_in_order(defs: &[(u32, u32, u32)]) -> bool
+pub fn are_in_order(defs: &[(u32, u32, u32)]) -> bool
     ensures yes { result ≡ true → IsNonDecreasingBy reached defs.now }
     ensures no { IsNonDecreasingBy reached defs.now → result ≡ true }
 {
@@ -13,7 +13,7 @@ pub(crate) fn are_in_order(defs: &[(u32, u32, u32)]) -> bool
 }
 
 /// The definitions that reach the place; where they aren't in order, all.
-pub(crate) fn stretch_of(defs: &[(u32, u32, u32)], in_order: bool, place: u32) -> &[(u32, u32, u32)]
+pub fn stretch_of(defs: &[(u32, u32, u32)], in_order: bool, place: u32) -> &[(u32, u32, u32)]
     requires { in_order ≡ true → IsNonDecreasingBy reached defs.now }
     ensures enough { AreEnough defs.now result.now place }
     ensures only { in_order ≡ true → All (λ d. reached d ≡ place) result.now }

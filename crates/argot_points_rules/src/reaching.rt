@@ -80,7 +80,7 @@ fn push_definition(
 }
 
 /// The definitions of a register that reach a place of the function, each with the index of its result.
-pub(crate) fn definitions(
+pub fn definitions(
     alloc: Global,
     program: &Program,
     function: &Function,

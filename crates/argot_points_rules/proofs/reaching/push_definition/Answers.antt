@@ -1,7 +1,7 @@
 use Rattle.std.proofs.Common.{rules, ◌++◌, sym, ap, ◌∙◌}
 use Rattle.std.proofs.lemmas.List.{append-nil}
 use Rattle.argot_points_rules.proofs.Counting.{no_definition}
-use Rattle.argot_points_rules.proofs.definitions.push_definition.Goals as goal
+use Rattle.argot_points_rules.proofs.reaching.push_definition.Goals as goal
 
 pub returns-then-place-len : goal.returns-then-place-len
 returns-then-place-len c =
