@@ -1,0 +1,6 @@
+use Rattle.std.proofs.Common.{[], take}
+use Rattle.argot_graph_edges.specs.Accessing.{AddsPairs, Readable}
+use Rattle.argot_graph_edges.proofs.accesses.reads_of.Given as goal
+
+abbrev pub invariant-loop-n : goal.invariant-loop-n
+invariant-loop-n l = AddsPairs (Readable l.points (take l.n l.rules)) [] l.pairs.items

@@ -1,0 +1,23 @@
+use Rattle.std.proofs.Common.{◌≡◌, ◌+◌, length, take, get_or, slice_get, ap, ◌∙◌, subst, arith}
+use Rattle.std.proofs.Math.Seq.{take-length}
+use Rattle.std.proofs.lemmas.List.{take_more}
+use Rattle.std.proofs.lemmas.Option.{slice_get-get_or}
+use Rattle.argot_facts.proofs.Listed.{in_of_get}
+use Rattle.argot_graph_edges.specs.Adding.{Adds}
+use Rattle.argot_graph_edges.specs.Operating.{FromLeaves, FromDefinitions}
+use Rattle.argot_graph_edges.proofs.Sketching.{adds_none, adds_more}
+use Rattle.argot_graph_edges.proofs.ops.draw_definitions.Goals as goal
+
+pub loop-n-init : goal.loop-n-init
+loop-n-init c = adds_none _ _ (λ e h. elim h.1 [ ])
+
+pub loop-n-preserved : goal.loop-n-preserved
+loop-n-preserved c =
+    let xs = c.args.found.now in
+    adds_more (λ x. FromLeaves c.args.drawing.now.points.now.nodes x c.args.leaves c.args.to) (take c.loop-n.n xs) (take (c.loop-n.n + 1) xs) (get_or xs c.loop-n.n (0, 0)) _ _ _ (take_more xs c.loop-n.n (0, 0) c.loop-n-test.true) c.loop-n.invariant c.in_ok-draw_leaves.ensures
+
+pub returns : goal.returns
+returns c =
+    let xs = c.args.found.now in
+    let e : c.loop-n.n ≡ length xs = omega arith in
+    subst (λ ys. Adds (FromDefinitions c.args.drawing.now.points.now.nodes ys c.args.leaves c.args.to) c.args.sketch.now c.loop-n.sketch) (ap (λ n. take n xs) e ∙ take-length xs) c.loop-n.invariant

@@ -1,0 +1,8 @@
+use Rattle.std.proofs.Common.{ℕ, ◌<◌, ◌≤◌, length}
+use Rattle.argot_graph_edges.specs.Adding.{Adds}
+use Rattle.argot_plain.specs.Code.{arguments}
+use Rattle.argot_graph_edges.specs.Outward.{ToResult, FromArgument}
+use Rattle.argot_graph_edges.proofs.outside.draw_results.Given as goal
+
+abbrev pub invariant-loop-n : goal.invariant-loop-n
+invariant-loop-n l = Adds (λ e. (m : ℕ) × (l.first ≤ m) × (m < l.n) × ToResult l.drawing.points.now.nodes l.from l.call.place l.call.behind m e) l.initial.sketch l.sketch

@@ -1,0 +1,11 @@
+pub mod Adding
+pub mod Rows
+pub mod Tabled
+pub mod Handing
+pub mod Drawn
+pub mod Operating
+pub mod Outward
+pub mod Accessing
+pub mod Meeting
+pub mod Inward
+pub mod Whole
